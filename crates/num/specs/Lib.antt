@@ -1,0 +1,3 @@
+pub mod Le
+pub mod Floats
+pub mod Past

@@ -1,0 +1,21 @@
+// The options of a run: one set of numbers, handed in by copy. Their floats may be any bits; the counts are checked where a run begins.
+#[repr(C)]
+pub struct Options {
+    pub reltol: f64,
+    pub vntol: f64,
+    pub abstol: f64,
+    pub tstart: f64,
+    pub tstop: f64,
+    pub tstep: f64,
+    pub fs: f64,
+    pub ft: f64,
+    pub rmin: f64,
+    pub rmax: f64,
+    pub gmin: f64,
+    pub boltzmann: f64,
+    pub charge: f64,
+    pub itl1: u64,
+    pub itl3: u64,
+    pub itl4: u64,
+    pub budget: u64,
+}
