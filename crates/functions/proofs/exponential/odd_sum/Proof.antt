@@ -1,0 +1,22 @@
+-- `functions::exponential::odd_sum` meets its contract. Assumes nothing.
+use Rattle.functions.specs.Words.{horner}
+use borrow.Author.Needs.{needs}
+use Rattle.functions.proofs.exponential.odd_sum.Statement.{statement}
+use Rattle.functions.proofs.exponential.odd_sum.Tie as tie
+
+returns : tie.Need-returns
+unfolding horner
+returns c = cc
+
+pub odd-sum-spec : {M : Type 1} → statement M
+odd-sum-spec =
+    tie.close
+    (tie.spec
+    (λ c κs. search needs)
+    (λ c κs. search needs)
+    (λ c κs. search needs)
+    (λ c κs. search needs)
+    (λ c κs. search needs)
+    (λ c κs. search needs)
+    (λ c κs. search needs)
+    returns)

@@ -1,0 +1,13 @@
+-- The way from the definitions to the bounds.
+pub mod Product
+pub mod Horner
+pub mod Bits64
+pub mod Packed
+pub mod Closing
+pub mod Reduced
+pub mod ExpLaw
+pub mod SinLaw
+pub mod LnLaw
+pub mod Fields
+pub mod Leading
+pub mod Ties
