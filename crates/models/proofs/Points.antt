@@ -1,0 +1,59 @@
+-- Laws of a pattern's points: past the end of the bytes a point is (0, 0), a part is its first point and the rest, and the last of a part stands at its end.
+use Prim.Native.Nat.{ℕ, zero, suc, _+_, _-_, _*_, _/_, _<_}
+use mathlib.Core.Path.{_≡_, refl, sym, ap, _∙_}
+use mathlib.Core.Bool.{true, false}
+use mathlib.Core.List.{List, [], _∷_}
+use native.Mathlib.Nat.{add-zero}
+use native.Mathlib.Omega.{arith}
+use lib.ListN.{length}
+use lib.Ieee.{Float, lt}
+use Rattle.num.specs.Le.{le64, floatAt}
+use Rattle.num.specs.Past.{past64}
+use Rattle.num.specs.Floats.{nought}
+use Rattle.models.specs.declared.vpwl.Point.{Point}
+use Rattle.models.specs.Vpwl.{pointAt, pointsFrom, lastOf, between, patternAt, levelAt}
+
+pub past-point : (s : List ℕ) (k : ℕ) → length s / 16 < k → pointAt s k ≡ record { time = nought; level = nought }
+unfolding pointAt floatAt
+past-point s k h = rw (past64 s (16 * k) (omega arith), past64 s (16 * k + 8) (omega arith))
+
+pub cut : (s : List ℕ) (k n i : ℕ) → i < n → pointsFrom s (k + i) (n - i) ≡ pointAt s (k + i) ∷ pointsFrom s (k + (i + 1)) (n - (i + 1))
+unfolding pointsFrom
+cut s k n i h =
+    let e : n - i ≡ suc (n - (i + 1)) = omega arith in
+    let f : k + i + 1 ≡ k + (i + 1) = omega arith in
+    rw (e, f)
+
+pub last-at : (s : List ℕ) (k n : ℕ) → lastOf (pointAt s k) (pointsFrom s (k + 1) n) ≡ pointAt s (k + n)
+unfolding lastOf pointsFrom
+last-at s k zero = rw add-zero
+last-at s k (suc n) =
+    let e : k + 1 + n ≡ k + suc n = omega arith in
+    last-at s (k + 1) n ∙ rw e
+
+pub some-points : (s : List ℕ) (k n : ℕ) (delay repeat t : Float) → 0 < n → patternAt (pointsFrom s k n) delay repeat t ≡ levelAt (pointsFrom s k n) (pointAt s (k + (n - 1))) delay repeat t
+unfolding patternAt pointsFrom
+some-points s k zero delay repeat t h = absurd (omega arith)
+some-points s k (suc n) delay repeat t h =
+    let e : suc n - 1 ≡ n = omega arith in
+    rw (e, last-at s k n)
+
+pub no-point : (tc t1 v1 : Float) (s : List ℕ) (k n : ℕ) → n ≡ 0 → between tc t1 v1 (pointsFrom s k n) ≡ record { t1 = t1; v1 = v1; t2 = nought; v2 = nought }
+unfolding between pointsFrom
+no-point tc t1 v1 s k zero e = refl
+no-point tc t1 v1 s k (suc n) e = absurd (omega arith)
+
+further : (tc t1 v1 : Float) (p : Point) (ps : List Point) → lt (p .time) tc ≡ true → between tc t1 v1 (p ∷ ps) ≡ between tc (p .time) (p .level) ps
+unfolding between
+further tc t1 v1 p ps t = rw (t, between)
+
+found : (tc t1 v1 : Float) (p : Point) (ps : List Point) → lt (p .time) tc ≡ false → between tc t1 v1 (p ∷ ps) ≡ record { t1 = t1; v1 = v1; t2 = p .time; v2 = p .level }
+unfolding between
+found tc t1 v1 p ps t = rw (t, between)
+
+module _ (tc t1 v1 : Float) (s : List ℕ) (k n i : ℕ) (h : i < n) (p : Point) (e : p ≡ pointAt s (k + i)) where
+  pub beyond : lt (p .time) tc ≡ true → between tc t1 v1 (pointsFrom s (k + i) (n - i)) ≡ between tc (p .time) (p .level) (pointsFrom s (k + (i + 1)) (n - (i + 1)))
+  beyond t = rw (cut s k n i h, ← e) (further tc t1 v1 p _ t)
+
+  pub reached : lt (p .time) tc ≡ false → between tc t1 v1 (pointsFrom s (k + i) (n - i)) ≡ record { t1 = t1; v1 = v1; t2 = p .time; v2 = p .level }
+  reached t = rw (cut s k n i h, ← e) (found tc t1 v1 p _ t)

@@ -1,0 +1,31 @@
+-- The sinusoidal sources. Clients cite sineAt, verdictOf and valueOf.
+use Prim.Native.Nat.{ℕ}
+use lib.Ieee.{Float, nan, binary64, ofBits}
+use Rattle.functions.specs.declared.Sine.{Sine}
+use Rattle.functions.specs.declared.Sine.the-variants.{Value as Is, Refused as No}
+use Rattle.functions.specs.Sin.{sinOf}
+use Rattle.models.specs.Signs.{_⊕_, _⊗_, two}
+use Rattle.models.specs.declared.sine.Level.{Level}
+use Rattle.models.specs.declared.sine.Level.the-variants.{Value, Refused}
+
+abbrev pub PI : Float
+PI = ofBits binary64 0x4009_21fb_5444_2d18
+
+-- the level that a sine makes: vo + va * sin; "sine refused by 12" where it makes none
+unfoldable pub levelOf : Float → Float → Sine → Level
+levelOf vo va (Is y) = Value (vo ⊕ va ⊗ y)
+levelOf vo va No = Refused
+
+-- the level at time t, the sine's argument being ((2.0 * PI) * freq) * t
+unfoldable pub sineAt : Float → Float → Float → Float → Level
+sineAt vo va freq t = levelOf vo va (sinOf (two ⊗ PI ⊗ freq ⊗ t))
+
+-- the verdict's number: "26 sine refused by 12"
+unfoldable pub verdictOf : Level → ℕ
+verdictOf (Value x) = 0
+verdictOf Refused = 26
+
+-- the level's value, a NaN where it has none
+unfoldable pub valueOf : Level → Float
+valueOf (Value x) = x
+valueOf Refused = nan
