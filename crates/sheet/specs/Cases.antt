@@ -1,0 +1,50 @@
+-- Small sheets and what the check answers, computed: each refusal of 6 to 10, the lowest of several, and the first of two faulty records.
+use Prim.Native.Nat.{ℕ}
+use mathlib.Core.Path.{_≡_, refl}
+use mathlib.Core.List.{List, [], _∷_, _++_, map}
+use lib.ListN.{take, replicate}
+use Rattle.num.specs.Le.{le32, le64, floatAt}
+use Rattle.sheet.specs.declared.Limits.{Limits}
+use Rattle.sheet.specs.Record.{recordBytes, recordAt, decodeOf, elementOf, usesOf, restZero, zeros}
+use Rattle.sheet.specs.Range.{nodesOf, sourcesOf, pointsOf, nodesFit, sourcesFit, pointsFit, elementFault}
+use Rattle.sheet.specs.Check.{checkFrom, checkOf, numberOf, placeOf}
+
+-- a record that begins with these bytes; the rest is zero
+abbrev begins : List ℕ → List ℕ
+begins bytes = take recordBytes (bytes ++ replicate recordBytes 0)
+
+-- three nodes, one source, two points
+abbrev limits : Limits
+limits = record { nodes = 3; sources = 1; points = 2 }
+
+abbrev resistor : List ℕ
+resistor = begins (1 ∷ 0 ∷ 1 ∷ 0 ∷ 2 ∷ [])
+
+abbrev pattern : List ℕ
+pattern = begins (7 ∷ 0 ∷ 1 ∷ 0 ∷ 2 ∷ 0 ∷ 0 ∷ 0 ∷ 0 ∷ 0 ∷ 0 ∷ 0 ∷ 1 ∷ 0 ∷ 1 ∷ [])
+
+unfoldable pub sheets : List (List ℕ)
+sheets =
+    []
+    ∷ (resistor ++ pattern)
+    ∷ begins (0 ∷ 1 ∷ [])  -- kind 0, and byte 1
+    ∷ (resistor ++ begins (11 ∷ []))  -- kind 11
+    ∷ begins (1 ∷ 1 ∷ [])  -- byte 1
+    ∷ begins (1 ∷ 0 ∷ 3 ∷ 0 ∷ 0 ∷ 0 ∷ 0 ∷ 0 ∷ 0 ∷ 0 ∷ 1 ∷ [])  -- a source number that R does not use, before its node
+    ∷ begins (1 ∷ 0 ∷ 0 ∷ 0 ∷ 3 ∷ [])  -- second node
+    ∷ begins (10 ∷ 0 ∷ 0 ∷ 0 ∷ 0 ∷ 0 ∷ 0 ∷ 0 ∷ 3 ∷ [])  -- second control node
+    ∷ begins (9 ∷ 0 ∷ 0 ∷ 0 ∷ 0 ∷ 0 ∷ 3 ∷ 0 ∷ 0 ∷ 0 ∷ 1 ∷ [])  -- first control node, before the source number
+    ∷ (pattern ++ begins (3 ∷ 0 ∷ 0 ∷ 0 ∷ 0 ∷ 0 ∷ 0 ∷ 0 ∷ 0 ∷ 0 ∷ 1 ∷ []))  -- source number
+    ∷ begins (7 ∷ 0 ∷ 0 ∷ 0 ∷ 0 ∷ 0 ∷ 0 ∷ 0 ∷ 0 ∷ 0 ∷ 0 ∷ 0 ∷ 1 ∷ 0 ∷ 2 ∷ [])  -- one point too many
+    ∷ begins (7 ∷ 0 ∷ 0 ∷ 0 ∷ 0 ∷ 0 ∷ 0 ∷ 0 ∷ 0 ∷ 0 ∷ 0 ∷ 0 ∷ 255 ∷ 255 ∷ 1 ∷ [])  -- a sum beyond 16 bits
+    ∷ begins (7 ∷ 0 ∷ 0 ∷ 0 ∷ 0 ∷ 0 ∷ 0 ∷ 0 ∷ 0 ∷ 0 ∷ 0 ∷ 0 ∷ 2 ∷ [])  -- no point, from the end on
+    ∷ (resistor ++ begins (1 ∷ 0 ∷ 3 ∷ []) ++ begins (11 ∷ []))  -- the first faulty record counts
+    ∷ []
+
+unfoldable pub answers : List (ℕ × ℕ)
+answers =
+    (0, 0) ∷ (0, 0) ∷ (6, 0) ∷ (6, 1) ∷ (7, 0) ∷ (7, 0) ∷ (8, 0) ∷ (8, 0) ∷ (8, 0) ∷ (9, 1) ∷ (10, 0) ∷ (10, 0) ∷ (0, 0) ∷ (8, 1) ∷ []
+
+pub all-right : map (λ (s : List ℕ). (numberOf (checkOf s limits), placeOf (checkOf s limits))) sheets ≡ answers
+unfolding sheets answers checkFrom recordAt decodeOf elementOf usesOf restZero zeros nodesOf sourcesOf pointsOf nodesFit sourcesFit pointsFit elementFault le32 le64 floatAt
+all-right = refl
