@@ -1,0 +1,5 @@
+pub mod Sizes
+pub mod Search
+pub mod Lanes
+pub mod Columns
+pub mod Unknowns

@@ -1,0 +1,4 @@
+pub mod Solve
+pub mod Inner
+pub mod Entries
+pub mod Laws
