@@ -1,0 +1,4 @@
+pub mod Tags
+pub mod Walk
+pub mod Numbers
+pub mod Passed

@@ -1,0 +1,22 @@
+-- `groups::stamp_pass` meets its contract: by the verdict of the independent sources. Assumes nothing.
+use borrow.Author.Needs.{needs}
+use Rattle.groups.proofs.Passed.{ended, went-on}
+use Rattle.groups.proofs.stamp_pass.Statement.{statement}
+use Rattle.groups.proofs.stamp_pass.Tie as tie
+
+returns : tie.Need-returns
+returns c =
+    let a = c .before .before .before .before .before .before .before .before .before .before .before .before .before .before .before .before .before .args in
+    ended (a .o) (a .p) (a .sheet .now) (a .points .now) (a .base .now) (a .accepted .now) (a .vector .now) (a .memory .now) (a .matrix .now) _ _ (rw (c .before .before .before .before .before .source-time .ensures, c .before .before .before .before .before .before .before .before .copy .ensures) at (c .before .before .before .stamp-independent .ensures)) (c .if1 .taken)
+
+returns-2 : tie.Need-returns-2
+returns-2 c =
+    let a = c .before .before .before .before .before .before .before .before .before .before .before .before .before .before .before .before .before .before .before .before .before .before .before .before .args in
+    went-on (a .o) (a .p) (a .sheet .now) (a .points .now) (a .base .now) (a .accepted .now) (a .vector .now) (a .memory .now) (a .matrix .now) _ _ (rw (c .before .before .before .before .before .before .before .before .before .before .before .before .source-time .ensures, c .before .before .before .before .before .before .before .before .before .before .before .before .before .before .before .copy .ensures) at (c .before .before .before .before .before .before .before .before .before .before .stamp-independent .ensures)) (c .before .before .before .before .before .before .before .if1 .left) _ (c .before .before .before .before .complete .ensures)
+
+pub stamp-pass-spec : {M : Type 1} → statement M
+stamp-pass-spec =
+    tie.close
+    (tie.spec
+    (λ c κs. search needs) (λ c κs. search needs) (λ c κs. search needs) (λ c. search needs) returns (λ c κs. search needs)
+    (λ c. search needs) (λ c. search needs) returns-2)
