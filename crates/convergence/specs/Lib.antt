@@ -1,0 +1,2 @@
+pub mod Convergence
+pub mod Cases

@@ -1,0 +1,104 @@
+-- The run as a machine of passes. `f` stamps and solves: it is the machine's one parameter. A pass leaves an ended run alone, and the run of a budget
+-- is so many passes; 24 is not in the machine, but how counters read that are still going when the budget ends (`verdictOf`).
+use Prim.Native.Nat.{ℕ, zero, suc, _+_, _*_, _/_}
+use mathlib.Core.Bool.{Bool, true, false, cond}
+use mathlib.Core.List.{List, [], _∷_}
+use lib.Dec.{eqb, ltb}
+use lib.ListN.{length}
+use lib.Ieee.{Float}
+use Rattle.loops.specs.Loop.{zerosLike, rowAt}
+use Rattle.options.specs.declared.Options.{Options}
+use Rattle.convergence.specs.Convergence.{convergenceOf}
+use Rattle.steps.specs.declared.Counters.{Counters}
+use Rattle.steps.specs.declared.Report.{Report}
+use Rattle.steps.specs.declared.Report.the-variants.{Yes, No, Error, Diode, Sine}
+use Rattle.steps.specs.Verdicts.{diode, noRoom, dcPhase, transientPhase}
+use Rattle.steps.specs.Counters.{ended, written}
+use Rattle.steps.specs.Control.{reportOf, dcAfter, stepAfter, rowDue}
+use Rattle.machine.specs.State.{State, stateOf, Job, Attempt, Tried, triedOf, Written, writtenOf}
+
+-- ---- stamp, solve, compare
+
+-- what the new vector is compared with: zeros in the first pass of DC or of a step, else the last solved vector
+abbrev pub before : Bool → List Float → List Float
+before first v = cond first (zerosLike v) v
+
+-- a stamp that failed reports its own failure, and else the convergence check speaks
+abbrev pub reported : ℕ → Report → Report
+reported fault check = cond (eqb fault 0) check (cond (eqb fault diode) Diode Sine)
+
+unfoldable pub tried : Attempt → Options → ℕ → Counters → List Float → List Float → List Float → List Float → Tried
+tried f o nodes c accepted system vector memory =
+    let a = f c accepted system vector memory in
+    triedOf
+    (reported (a .fault) (reportOf (convergenceOf (a .vector) (before (c .first) vector) nodes o)))
+    (a .system)
+    (a .vector)
+    (a .memory)
+
+abbrev pub triedAt : Attempt → Options → ℕ → State → Tried
+triedAt f o nodes s = tried f o nodes (s .counters) (s .accepted) (s .system) (s .vector) (s .memory)
+
+abbrev pub triedBy : Attempt → Job → State → Tried
+triedBy f j s = triedAt f (j .options) (j .nodes) s
+
+-- ---- rows: a row is time, then N numbers
+
+-- the next row in its place; without room for a whole row 25
+unfoldable pub writtenBy : Counters → List Float → List Float → Written
+writtenBy c v rows =
+    let w = length v + 1 in
+    cond (ltb (c .rows) (length rows / w))
+    (writtenOf (written c) (rowAt (c .rows * w) (c .time) v rows))
+    (writtenOf (ended noRoom c) rows)
+
+-- a later time gets a row only if one is due
+unfoldable pub landed : Options → Counters → List Float → List Float → Written
+landed o c v rows = cond (rowDue o (c .time)) (writtenBy c v rows) (writtenOf c rows)
+
+-- ---- one pass
+
+-- the state after a pass: what is accepted, what was tried, what was written
+abbrev pub after : List Float → Tried → Written → State
+after accepted t w = stateOf (w .counters) accepted (t .system) (t .vector) (t .memory) (w .rows)
+
+-- DC: where the transient begins, the first row is the DC vector at 0
+unfoldable pub dcPass : Attempt → Job → State → State
+dcPass f j s =
+    let t = triedBy f j s in
+    let c = dcAfter (j .options) (j .transient) (t .report) (s .counters) in
+    after (s .accepted) t (cond (eqb (c .phase) transientPhase) (writtenBy c (t .vector) (s .rows)) (writtenOf c (s .rows)))
+
+abbrev pub accepts : Report → Bool
+accepts Yes = true
+accepts No = false
+accepts Error = false
+accepts Diode = false
+accepts Sine = false
+
+-- transient: where a step is accepted, its vector is kept, and the new time may get a row
+unfoldable pub stepPass : Attempt → Options → ℕ → State → State
+stepPass f o nodes s =
+    let t = triedAt f o nodes s in
+    let c = stepAfter o (t .report) (s .counters) in
+    cond (accepts (t .report))
+    (after (t .vector) t (landed o c (t .vector) (s .rows)))
+    (after (s .accepted) t (writtenOf c (s .rows)))
+
+-- one unit of budget: a pass of DC or of the transient; an ended run stays as it is
+unfoldable pub pass : Attempt → Job → State → State
+pass f j s =
+    cond (eqb (s .counters .phase) dcPhase) (dcPass f j s)
+    (cond (eqb (s .counters .phase) transientPhase) (stepPass f (j .options) (j .nodes) s)
+    s)
+
+-- ---- the run of a budget
+
+unfoldable pub runFor : Attempt → Job → ℕ → State → State
+runFor f j zero s = s
+runFor f j (suc n) s = runFor f j n (pass f j s)
+
+-- one budget after the other
+abbrev pub runAll : Attempt → Job → List ℕ → State → State
+runAll f j [] s = s
+runAll f j (b ∷ bs) s = runAll f j bs (runFor f j b s)

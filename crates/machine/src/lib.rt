@@ -1,0 +1,49 @@
+// The run as a machine of passes: its definition and its laws are in specs/. The code here writes the rows; stamping, solving and the passes are the engine's.
+// Every function here is total.
+ghost use mathlib.Core.Path.{_≡_};
+ghost use Rattle.machine.specs.State.{writtenOf};
+ghost use Rattle.machine.specs.Machine.{writtenBy, landed as landedOf, accepts as acceptsOf};
+use loops::put_row;
+use options::Options;
+use steps::Counters;
+use steps::NO_ROOM;
+use steps::Report;
+use steps::ended;
+use steps::row_due;
+use steps::written;
+
+// Writes the next row, the counters' time and then the vector; without room for it the run has ended with 25.
+pub fn write(c: Counters, vector: &[f64], rows: &mut [f64]) -> Counters
+    ensures { λ r. ⌜ writtenOf r (now (rows .exit)) ≡ writtenBy c (now (vector .entry)) (now (rows .entry)) ⌝ }
+{
+    let w = vector.len() + 1;
+    let k = c.rows as usize;
+    if k < rows.len() / w {
+        put_row(rows, k * w, c.time, vector);
+        return written(c);
+    }
+    ended(NO_ROOM, c)
+}
+
+// Writes the next row if the counters' time gets one.
+pub fn landed(o: Options, c: Counters, vector: &[f64], rows: &mut [f64]) -> Counters
+    ensures { λ r. ⌜ writtenOf r (now (rows .exit)) ≡ landedOf o c (now (vector .entry)) (now (rows .entry)) ⌝ }
+{
+    if row_due(o, c.time) {
+        return write(c, vector, rows);
+    }
+    c
+}
+
+// Whether a step with this report is accepted.
+pub fn accepts(r: Report) -> bool
+    ensures { λ b. ⌜ b ≡ acceptsOf r ⌝ }
+{
+    match r {
+        Report::Yes => true,
+        Report::No => false,
+        Report::Error => false,
+        Report::Diode => false,
+        Report::Sine => false,
+    }
+}

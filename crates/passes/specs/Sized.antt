@@ -1,0 +1,50 @@
+-- The lengths with which a run works: N from 1 to 48, vectors of N, matrices of N (N + 1). Clients cite fits, Sized, resized, sized and sized-fits.
+use Prim.Native.Nat.{ℕ, _+_, _*_, _≤_, _<_}
+use mathlib.Core.Path.{_≡_, refl}
+use mathlib.Core.Bool.{Bool, true, false, cond, _&&_}
+use native.Mathlib.Omega.{arith}
+use borrow.Author.Tests.{eqb-true, leb-true, eq-eqb, le-leb}
+use lib.Dec.{eqb, leb}
+
+pub record Sized (n accepted base elimination system : ℕ) : Type 0 where
+  pub some : 1 ≤ n
+  pub small : n ≤ 48
+  pub vectors : accepted ≡ n
+  pub bases : base ≡ n * (n + 1)
+  pub works : elimination ≡ n * (n + 1)
+  pub systems : system ≡ n * (n + 1)
+
+-- buffers that are as long fit as well
+pub resized : (n a b e s n′ a′ e′ s′ : ℕ) → Sized n a b e s → n′ ≡ n → a′ ≡ a → e′ ≡ e → s′ ≡ s → Sized n′ a′ b e′ s′
+resized n a b e s n′ a′ e′ s′ z p q r t = rw (p, q, r, t) z
+
+-- the same as a test
+unfoldable pub fits : ℕ → ℕ → ℕ → ℕ → ℕ → Bool
+fits n accepted base elimination system =
+    leb 1 n && (leb n 48 && (eqb accepted n && (eqb base (n * (n + 1)) && (eqb elimination (n * (n + 1)) && eqb system (n * (n + 1))))))
+
+both : (a b : Bool) → (a && b) ≡ true → (a ≡ true) × (b ≡ true)
+both true b e = (refl, e)
+both false b e = absurd (let z : _≡_ {A = ℕ} 0 1 = cc in omega arith)
+
+module _ (n accepted base elimination system : ℕ) where
+  pub sized : fits n accepted base elimination system ≡ true → Sized n accepted base elimination system
+  unfolding fits
+  sized e =
+      let a = both (leb 1 n) _ e in
+      let b = both (leb n 48) _ (a .1) in
+      let c = both (eqb accepted n) _ (b .1) in
+      let d = both (eqb base (n * (n + 1))) _ (c .1) in
+      let w = both (eqb elimination (n * (n + 1))) _ (d .1) in
+      record {
+        some = leb-true 1 n (a .0);
+        small = leb-true n 48 (b .0);
+        vectors = eqb-true _ _ (c .0);
+        bases = eqb-true _ _ (d .0);
+        works = eqb-true _ _ (w .0);
+        systems = eqb-true _ _ (w .1);
+      }
+
+  pub sized-fits : Sized n accepted base elimination system → fits n accepted base elimination system ≡ true
+  unfolding fits
+  sized-fits z = rw (le-leb 1 n (z .some), le-leb n 48 (z .small), eq-eqb accepted n (z .vectors), eq-eqb base (n * (n + 1)) (z .bases), eq-eqb elimination (n * (n + 1)) (z .works), eq-eqb system (n * (n + 1)) (z .systems))

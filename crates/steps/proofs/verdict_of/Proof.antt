@@ -1,0 +1,16 @@
+use Rattle.steps.specs.Counters.{verdictOf}
+use mathlib.Core.Path.{_≡_, sym, _∙_}
+use borrow.Author.Needs.{needs}
+use Rattle.steps.proofs.verdict_of.Statement.{statement}
+use Rattle.steps.proofs.verdict_of.Tie as tie
+
+returns : tie.Need-returns
+unfolding verdictOf
+returns c = rw (sym (c .before .going .ensures) ∙ c .if1 .taken)
+
+returns-2 : tie.Need-returns-2
+unfolding verdictOf
+returns-2 c = rw (sym (c .before .going .ensures) ∙ c .if1 .left)
+
+pub verdict-of-spec : {M : Type 1} → statement M
+verdict-of-spec = tie.close (tie.spec (λ c κs. search needs) returns returns-2)

@@ -1,0 +1,4 @@
+pub mod Verdicts
+pub mod Counters
+pub mod Control
+pub mod Laws
