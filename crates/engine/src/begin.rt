@@ -1,0 +1,48 @@
+// The buffers as a run begins: the base matrix stamped, zeros for the vectors and the system, and each diode's memory at 0.0.
+ghost use mathlib.Core.Path.{_≡_};
+ghost use Prim.Native.Nat.{_<_};
+ghost use lib.ListN.{length};
+ghost use Rattle.loops.specs.Loop.{zerosLike};
+ghost use Rattle.groups.specs.Stamping.{baseOf};
+ghost use Rattle.engine.specs.Begin.{forgotten, forgetAt, begunOf};
+
+// The kind of a diode's record.
+const DIODE: u8 = 4;
+
+// Makes every buffer what it is before the first pass.
+pub fn begin(
+    sheet: &[u8],
+    nodes: usize,
+    base: &mut [f64],
+    accepted: &mut [f64],
+    system: &mut [f64],
+    vector: &mut [f64],
+    memory: &mut [f64],
+)
+    ensures { λ _. ⌜ begunOf (now (base .exit)) (now (accepted .exit)) (now (system .exit)) (now (vector .exit)) (now (memory .exit)) ≡ begunOf (baseOf nodes (length (now (vector .entry))) (now (sheet .entry)) (now (base .entry))) (zerosLike (now (accepted .entry))) (zerosLike (now (system .entry))) (zerosLike (now (vector .entry))) (forgotten (now (sheet .entry)) (now (memory .entry))) ⌝ }
+{
+    groups::stamp_base(sheet, nodes, vector.len(), base);
+    loops::fill(accepted, 0.0);
+    loops::fill(system, 0.0);
+    loops::fill(vector, 0.0);
+    forget(sheet, memory);
+}
+
+// Puts the memory of every diode to 0.0; other records' floats stay.
+fn forget(sheet: &[u8], memory: &mut [f64])
+    ensures { λ _. ⌜ now (memory .exit) ≡ forgotten (now (sheet .entry)) (now (memory .entry)) ⌝ }
+{
+    for i in 0..memory.len() {
+        forget_at(sheet, i, memory);
+    }
+}
+
+// Puts the float of record i to 0.0 where that is a diode.
+fn forget_at(sheet: &[u8], i: usize, memory: &mut [f64])
+    requires { ⌜ i < length (now memory) ⌝ }
+    ensures { λ _. ⌜ now (memory .exit) ≡ forgetAt (now (sheet .entry)) i (now (memory .entry)) ⌝ }
+{
+    if sheet::kind_at(sheet, i) == DIODE {
+        memory[i] = 0.0;
+    }
+}

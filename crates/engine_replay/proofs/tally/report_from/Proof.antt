@@ -1,0 +1,34 @@
+use Prim.Native.Nat.{_≤_, _-_}
+use mathlib.Core.Path.{_≡_}
+use lib.ListN.{length}
+use borrow.Author.Needs.{needs}
+use Rattle.engine_replay.proofs.tally.report_from.Statement.{statement}
+use Rattle.engine_replay.proofs.tally.report_from.Tie as tie
+
+abbrev Inv-loop : tie.InvT-loop
+Inv-loop counts kind from to v₀ t6 t7 t8 v = Unit
+
+abbrev μ-loop : tie.MeasureT-loop
+μ-loop counts kind from to v₀ t6 t7 t8 v = to - v
+
+pub report-from-spec : {M : Type 1} → statement M
+report-from-spec =
+    tie.close
+    (tie.spec
+    Inv-loop
+    μ-loop
+    (λ c. search needs)
+    (λ c. search needs)
+    (λ c κs. search needs)
+    (λ c κs. search needs)
+    (λ c κs. search needs)
+    (λ c κs. search needs)
+    (λ c. search needs)
+    (λ c κs. search needs)
+    (λ c κs. search needs)
+    (λ c. search needs)
+    (λ c κs. search needs)
+    (λ c. search needs)
+    (λ c. search needs)
+    (λ c. search needs)
+    (λ c. search needs))

@@ -1,0 +1,195 @@
+// How many jobs ended in each way, and the lines that say so.
+use super::job::Found;
+use super::job::Told;
+use libc::STDOUT_FILENO;
+use num::u64_at;
+use std::num::wrapping_add_u64;
+ghost use mathlib.Core.Path.{_≡_};
+ghost use lib.ListN.{length};
+
+// Places of the counts: refusal k at k, DC's verdict v at 32 + v, a transient's at 64 + v, and at a limit the runs, with the refusals one further.
+const DIFFER: u64 = 0;
+
+const DC: u64 = 32;
+
+const TRANSIENT: u64 = 64;
+
+const UNKNOWNS_48: u64 = 96;
+
+const UNKNOWNS_49: u64 = 98;
+
+const BUDGET_MOST: u64 = 100;
+
+const BUDGET_BEYOND: u64 = 102;
+
+const RECORDS_256: u64 = 104;
+
+const RECORDS_257: u64 = 106;
+
+// All counts at 0.
+pub fn zeros() -> [u64; 128]
+    ensures { λ r. ⌜ 128 ≡ length r ⌝ }
+{
+    [0; 128]
+}
+
+// Counts how a job ended.
+pub fn ended(counts: &mut [u64], header: &[u8], t: Told, transient: bool) {
+    add(counts, outcome(t, transient));
+    let refused = if t.refusal == 0 { 0 } else { 1 };
+    limit(
+        counts,
+        unknowns(u64_at(header, 16), u64_at(header, 24)),
+        refused,
+    );
+    limit(counts, budget(u64_at(header, 160)), refused);
+    limit(counts, records(u64_at(header, 168)), refused);
+}
+
+// The place of an outcome.
+fn outcome(t: Told, transient: bool) -> u64 {
+    if t.refusal != 0 {
+        return t.refusal;
+    }
+    let kind = if transient { TRANSIENT } else { DC };
+    wrapping_add_u64(kind, t.verdict)
+}
+
+// The place of a job at the limit of the unknowns; 0 for any other job.
+fn unknowns(nodes: u64, sources: u64) -> u64 {
+    if nodes > 49 {
+        return 0;
+    }
+    let n = wrapping_add_u64(nodes, sources);
+    if n == 48 {
+        return UNKNOWNS_48;
+    }
+    if n == 49 {
+        return UNKNOWNS_49;
+    }
+    0
+}
+
+// The place of a job at the limit of the budget; 0 for any other job.
+fn budget(passes: u64) -> u64 {
+    if passes == 1000000 {
+        return BUDGET_MOST;
+    }
+    if passes == 1000001 {
+        return BUDGET_BEYOND;
+    }
+    0
+}
+
+// The place of a job at the limit of the records; 0 for any other job.
+fn records(bytes: u64) -> u64 {
+    if bytes == 10240 {
+        return RECORDS_256;
+    }
+    if bytes == 10280 {
+        return RECORDS_257;
+    }
+    0
+}
+
+// Counts a job at a limit.
+fn limit(counts: &mut [u64], place: u64, refused: u64) {
+    if place != 0 {
+        add(counts, wrapping_add_u64(place, refused));
+    }
+}
+
+// Counts a job that differs, and names it where it is among the first ten.
+pub fn found(counts: &mut [u64], k: u64, f: Found) {
+    if let Found::Nothing = f {
+        return;
+    }
+    add(counts, DIFFER);
+    if at(counts, DIFFER) <= 10 {
+        io::write_all(STDOUT_FILENO, b"job ");
+        io::print_decimal(STDOUT_FILENO, k);
+        io::write_all(STDOUT_FILENO, b" differs: ");
+        print_field(f);
+        io::write_all(STDOUT_FILENO, b"\n");
+    }
+}
+
+// Writes the name of a field.
+fn print_field(f: Found) {
+    match f {
+        Found::Nothing => io::write_all(STDOUT_FILENO, b"nothing"),
+        Found::Refusal => io::write_all(STDOUT_FILENO, b"refusal"),
+        Found::Place => io::write_all(STDOUT_FILENO, b"place"),
+        Found::Verdict => io::write_all(STDOUT_FILENO, b"verdict"),
+        Found::DcVerdict => io::write_all(STDOUT_FILENO, b"DC verdict"),
+        Found::Passes => io::write_all(STDOUT_FILENO, b"passes"),
+        Found::Rows => io::write_all(STDOUT_FILENO, b"rows written"),
+        Found::End => io::write_all(STDOUT_FILENO, b"end"),
+        Found::Base => io::write_all(STDOUT_FILENO, b"base matrix"),
+        Found::System => io::write_all(STDOUT_FILENO, b"system matrix"),
+        Found::Elimination => io::write_all(STDOUT_FILENO, b"elimination matrix"),
+        Found::Vector => io::write_all(STDOUT_FILENO, b"vector"),
+        Found::Memory => io::write_all(STDOUT_FILENO, b"memory"),
+        Found::RowFloats => io::write_all(STDOUT_FILENO, b"rows"),
+        Found::Unreadable => io::write_all(STDOUT_FILENO, b"cannot be read"),
+    }
+    ;
+}
+
+// Writes how many jobs differ, and then a line for each kind of outcome and each limit.
+pub fn report(counts: &[u64]) {
+    io::write_all(STDOUT_FILENO, b", ");
+    io::print_decimal(STDOUT_FILENO, at(counts, DIFFER));
+    io::write_all(STDOUT_FILENO, b" differ\nrefused:\n");
+    report_from(counts, 0, 1, 11);
+    io::write_all(STDOUT_FILENO, b"DC:\n");
+    report_from(counts, DC, 0, 1);
+    report_from(counts, DC, 20, 27);
+    io::write_all(STDOUT_FILENO, b"transient:\n");
+    report_from(counts, TRANSIENT, 0, 1);
+    report_from(counts, TRANSIENT, 20, 27);
+    report_limit(counts, b"48 unknowns", UNKNOWNS_48);
+    report_limit(counts, b"49 unknowns", UNKNOWNS_49);
+    report_limit(counts, b"budget 1000000", BUDGET_MOST);
+    report_limit(counts, b"budget 1000001", BUDGET_BEYOND);
+    report_limit(counts, b"256 records", RECORDS_256);
+    report_limit(counts, b"257 records", RECORDS_257);
+}
+
+// Writes the counts of the outcomes from `from` up to `to`.
+fn report_from(counts: &[u64], kind: u64, from: u64, to: u64) {
+    for v in from..to {
+        io::write_all(STDOUT_FILENO, b"  ");
+        io::print_decimal(STDOUT_FILENO, at(counts, wrapping_add_u64(kind, v)));
+        io::write_all(STDOUT_FILENO, b" with ");
+        io::print_decimal(STDOUT_FILENO, v);
+        io::write_all(STDOUT_FILENO, b"\n");
+    }
+}
+
+// Writes what became of the jobs at a limit.
+fn report_limit(counts: &[u64], name: &[u8], place: u64) {
+    io::write_all(STDOUT_FILENO, name);
+    io::write_all(STDOUT_FILENO, b": ");
+    io::print_decimal(STDOUT_FILENO, at(counts, place));
+    io::write_all(STDOUT_FILENO, b" run, ");
+    io::print_decimal(STDOUT_FILENO, at(counts, wrapping_add_u64(place, 1)));
+    io::write_all(STDOUT_FILENO, b" refused\n");
+}
+
+// One more at a place.
+fn add(counts: &mut [u64], place: u64) {
+    let i = place as usize;
+    if i < counts.len() {
+        counts[i] = wrapping_add_u64(counts[i], 1);
+    }
+}
+
+// The count at a place.
+fn at(counts: &[u64], place: u64) -> u64 {
+    let i = place as usize;
+    if i < counts.len() {
+        return counts[i];
+    }
+    0
+}
