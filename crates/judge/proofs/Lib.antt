@@ -1,0 +1,3 @@
+-- What the proofs of the judge share.
+pub mod Every
+pub mod Places
