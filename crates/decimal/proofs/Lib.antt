@@ -1,0 +1,4 @@
+pub mod Value
+pub mod Powers
+pub mod Units
+pub mod Digits
