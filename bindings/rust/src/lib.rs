@@ -1,0 +1,227 @@
+//! Safe calls into Savrunte, a proved circuit engine.
+//!
+//! Slices go in, an enum comes out. A call refuses with a [`Refusal`] and changes nothing that was lent to it, or it runs and
+//! ends with exactly one [`Verdict`].
+//!
+//! A divider: 4 V at node 1, two resistors of 1 ohm in a row.
+//!
+//! ```
+//! use savrunte::{dc_operating_point, Dc, Lent, Options, Record, Verdict};
+//!
+//! let sheet = Record::sheet(&[
+//!     Record::V { p: 1, n: 0, value: 4.0, source: 0 },
+//!     Record::R { p: 1, n: 2, value: 1.0 },
+//!     Record::R { p: 2, n: 0, value: 1.0 },
+//! ]);
+//! let mut lent = Lent::new(3, 1, 3);
+//! let answer = dc_operating_point(&sheet, &[], 3, 1, Options::bench(), &mut lent.buffers());
+//! assert_eq!(answer, Dc::Ended { verdict: Verdict::Settled, passes: 2 });
+//! assert_eq!(lent.vector, [0.0, 4.0, 2.0, -2.0]);
+//! ```
+
+mod raw;
+mod record;
+mod words;
+
+pub use raw::Options;
+pub use record::{points, Record};
+pub use words::{Refusal, Verdict};
+
+/// What a run is lent: the buffers of the header's `savrunte_dc`, of any length. Too short a buffer is refused by 5.
+pub struct Buffers<'a> {
+    pub base: &'a mut [f64],
+    pub system: &'a mut [f64],
+    pub elimination: &'a mut [f64],
+    pub vector: &'a mut [f64],
+    pub memory: &'a mut [f64],
+}
+
+/// Buffers of the very lengths that a run of these counts asks for.
+#[derive(Clone, Debug, PartialEq)]
+pub struct Lent {
+    pub base: Vec<f64>,
+    pub system: Vec<f64>,
+    pub elimination: Vec<f64>,
+    pub vector: Vec<f64>,
+    pub memory: Vec<f64>,
+}
+
+impl Lent {
+    /// Buffers for so many nodes (ground included), sources and records.
+    pub fn new(nodes: usize, sources: usize, records: usize) -> Lent {
+        let n = nodes + sources;
+        let cells = n * (n + 1);
+        Lent {
+            base: vec![0.0; cells],
+            system: vec![0.0; cells],
+            elimination: vec![0.0; cells],
+            vector: vec![0.0; n],
+            memory: vec![0.0; records],
+        }
+    }
+
+    pub fn buffers(&mut self) -> Buffers<'_> {
+        Buffers {
+            base: &mut self.base,
+            system: &mut self.system,
+            elimination: &mut self.elimination,
+            vector: &mut self.vector,
+            memory: &mut self.memory,
+        }
+    }
+}
+
+/// How a DC run went.
+#[derive(Clone, Copy, Debug, PartialEq)]
+pub enum Dc {
+    /// Nothing was changed. `place` is the faulty record, counted from 0, for the refusals of a record, else 0.
+    Refused { refusal: Refusal, place: usize },
+    Ended { verdict: Verdict, passes: u64 },
+}
+
+/// How a transient run went.
+#[derive(Clone, Copy, Debug, PartialEq)]
+pub enum Transient {
+    Refused { refusal: Refusal, place: usize },
+    Ended { verdict: Verdict, dc_verdict: Verdict, passes: u64, rows: usize, end: f64 },
+}
+
+/// What two vectors say of each other.
+#[derive(Clone, Copy, Debug, PartialEq, Eq)]
+pub enum Convergence {
+    Refused(Refusal),
+    Yes,
+    No,
+    Error,
+}
+
+/// What the judge says of a vector.
+#[derive(Clone, Copy, Debug, PartialEq, Eq)]
+pub enum Judgement {
+    Refused(Refusal),
+    Accepted,
+    /// The first row, counted from 0, whose exact residual is not within its tolerance.
+    Rejected { row: usize },
+}
+
+/// The companion model of a diode, and what it remembers.
+#[derive(Clone, Copy, Debug, PartialEq)]
+pub enum Diode {
+    Linear { g: f64, i: f64, memory: f64 },
+    /// The current is not finite (verdict 22).
+    NotFinite,
+}
+
+/// The DC operating point of a sheet.
+pub fn dc_operating_point(sheet: &[u8], points: &[u8], nodes: usize, sources: usize, options: Options, lent: &mut Buffers) -> Dc {
+    let r = unsafe {
+        raw::savrunte_dc(
+            sheet.as_ptr(), sheet.len(), points.as_ptr(), points.len(), nodes, sources, options,
+            lent.base.as_mut_ptr(), lent.base.len(),
+            lent.system.as_mut_ptr(), lent.system.len(),
+            lent.elimination.as_mut_ptr(), lent.elimination.len(),
+            lent.vector.as_mut_ptr(), lent.vector.len(),
+            lent.memory.as_mut_ptr(), lent.memory.len(),
+        )
+    };
+    match Refusal::of(r.refusal) {
+        Some(refusal) => Dc::Refused { refusal, place: r.place as usize },
+        None => Dc::Ended { verdict: Verdict::of(r.verdict), passes: r.passes },
+    }
+}
+
+/// The transient of a sheet. `rows` takes rows of N + 1 floats, the time and then the vector.
+pub fn transient_analysis(sheet: &[u8], points: &[u8], nodes: usize, sources: usize, options: Options, lent: &mut Buffers, rows: &mut [f64]) -> Transient {
+    let r = unsafe {
+        raw::savrunte_transient(
+            sheet.as_ptr(), sheet.len(), points.as_ptr(), points.len(), nodes, sources, options,
+            lent.base.as_mut_ptr(), lent.base.len(),
+            lent.system.as_mut_ptr(), lent.system.len(),
+            lent.elimination.as_mut_ptr(), lent.elimination.len(),
+            lent.vector.as_mut_ptr(), lent.vector.len(),
+            lent.memory.as_mut_ptr(), lent.memory.len(),
+            rows.as_mut_ptr(), rows.len(),
+        )
+    };
+    match Refusal::of(r.refusal) {
+        Some(refusal) => Transient::Refused { refusal, place: r.place as usize },
+        None => Transient::Ended {
+            verdict: Verdict::of(r.verdict),
+            dc_verdict: Verdict::of(r.dc_verdict),
+            passes: r.passes,
+            rows: r.rows as usize,
+            end: r.end,
+        },
+    }
+}
+
+/// Elimination and back substitution of `rows` rows by `rows` + 1 columns, to the bits of the Rust engine.
+pub fn solve(matrix: &mut [f64], vector: &mut [f64], rows: usize) -> Result<(), Refusal> {
+    let r = unsafe { raw::savrunte_solve(matrix.as_mut_ptr(), matrix.len(), vector.as_mut_ptr(), vector.len(), rows) };
+    match Refusal::of(r) {
+        Some(refusal) => Err(refusal),
+        None => Ok(()),
+    }
+}
+
+/// Compares two vectors, places below `nodes` as voltages and the others as currents.
+pub fn convergence_check(x: &[f64], y: &[f64], nodes: usize, options: Options) -> Convergence {
+    let r = unsafe { raw::savrunte_convergence(x.as_ptr(), x.len(), y.as_ptr(), y.len(), nodes, options) };
+    match (Refusal::of(r.refusal), r.state) {
+        (Some(refusal), _) => Convergence::Refused(refusal),
+        (None, 0) => Convergence::Yes,
+        (None, 1) => Convergence::No,
+        (None, _) => Convergence::Error,
+    }
+}
+
+/// The exact judge: accepts when every row's residual, added up without rounding, is within its tolerance.
+pub fn judge(system: &[f64], vector: &[f64], tolerances: &[f64], rows: usize) -> Judgement {
+    let r = unsafe {
+        raw::savrunte_judge(system.as_ptr(), system.len(), vector.as_ptr(), vector.len(), tolerances.as_ptr(), tolerances.len(), rows)
+    };
+    match Refusal::of(r.refusal) {
+        Some(refusal) => Judgement::Refused(refusal),
+        None if r.row == rows as u64 => Judgement::Accepted,
+        None => Judgement::Rejected { row: r.row as usize },
+    }
+}
+
+/// The exponential: 0 below -708, infinity above 709.
+pub fn exp(x: f64) -> f64 {
+    unsafe { raw::savrunte_exp(x) }
+}
+
+/// The natural logarithm.
+pub fn ln(x: f64) -> f64 {
+    unsafe { raw::savrunte_ln(x) }
+}
+
+/// The sine; refused when the argument is finite and beyond 2^20 in size.
+pub fn sin(x: f64) -> Result<f64, Refusal> {
+    let r = unsafe { raw::savrunte_sin(x) };
+    match Refusal::of(r.refusal) {
+        Some(refusal) => Err(refusal),
+        None => Ok(r.value),
+    }
+}
+
+/// The level at time `t` of a pattern over all the points given.
+pub fn pattern(points: &[u8], t_delay: f64, repeat: f64, t: f64) -> f64 {
+    unsafe { raw::savrunte_pattern(points.as_ptr(), points.len(), t_delay, repeat, t) }
+}
+
+/// The companion model of a capacitor: conductance and current.
+pub fn capacitor(value: f64, v: f64, step: f64) -> (f64, f64) {
+    let r = unsafe { raw::savrunte_capacitor(value, v, step) };
+    (r.g, r.i)
+}
+
+/// The companion model of a diode at voltage `v`, from what it remembers.
+pub fn diode(i_sat: f64, tdegc: f64, v: f64, memory: f64, options: Options) -> Diode {
+    let r = unsafe { raw::savrunte_diode(i_sat, tdegc, v, memory, options) };
+    if r.verdict != 0 {
+        return Diode::NotFinite;
+    }
+    Diode::Linear { g: r.g, i: r.i, memory: r.memory }
+}

@@ -1,0 +1,129 @@
+//! The C door, as include/savrunte.h declares it.
+
+/// The options of a run. Any float bits are allowed; the counts are checked by the call.
+#[repr(C)]
+#[derive(Clone, Copy, Debug, PartialEq)]
+pub struct Options {
+    pub reltol: f64,
+    pub vntol: f64,
+    pub abstol: f64,
+    pub tstart: f64,
+    pub tstop: f64,
+    pub tstep: f64,
+    pub fs: f64,
+    pub ft: f64,
+    pub rmin: f64,
+    pub rmax: f64,
+    pub gmin: f64,
+    pub boltzmann: f64,
+    pub charge: f64,
+    pub itl1: u64,
+    pub itl3: u64,
+    pub itl4: u64,
+    pub budget: u64,
+}
+
+impl Options {
+    /// The bench's tolerances, the Rust engine's constants, a step of 1 up to time 2, and the whole budget.
+    pub fn bench() -> Options {
+        Options {
+            reltol: 0.001,
+            vntol: 0.000001,
+            abstol: 0.000001,
+            tstart: 0.0,
+            tstop: 2.0,
+            tstep: 1.0,
+            fs: 1.0,
+            ft: 0.25,
+            rmin: 0.1,
+            rmax: 1.0,
+            gmin: f64::from_bits(0x3d71_9799_812d_ea11),
+            boltzmann: f64::from_bits(0x3b30_b0e6_accd_cc7e),
+            charge: f64::from_bits(0x3c07_a7f6_7898_4ae7),
+            itl1: 10,
+            itl3: 0,
+            itl4: 10,
+            budget: 1_000_000,
+        }
+    }
+}
+
+#[repr(C)]
+pub struct DcAnswer {
+    pub refusal: u64,
+    pub place: u64,
+    pub verdict: u64,
+    pub passes: u64,
+}
+
+#[repr(C)]
+pub struct TransientAnswer {
+    pub refusal: u64,
+    pub place: u64,
+    pub verdict: u64,
+    pub dc_verdict: u64,
+    pub passes: u64,
+    pub rows: u64,
+    pub end: f64,
+}
+
+#[repr(C)]
+pub struct ConvergenceAnswer {
+    pub refusal: u64,
+    pub state: u64,
+}
+
+#[repr(C)]
+pub struct JudgeAnswer {
+    pub refusal: u64,
+    pub row: u64,
+}
+
+#[repr(C)]
+pub struct SinAnswer {
+    pub refusal: u64,
+    pub value: f64,
+}
+
+#[repr(C)]
+pub struct Companion {
+    pub g: f64,
+    pub i: f64,
+}
+
+#[repr(C)]
+pub struct DiodeAnswer {
+    pub verdict: u64,
+    pub g: f64,
+    pub i: f64,
+    pub memory: f64,
+}
+
+extern "C" {
+    pub fn savrunte_dc(
+        sheet: *const u8, sheet_len: usize, points: *const u8, points_len: usize,
+        nodes: usize, sources: usize, options: Options,
+        base: *mut f64, base_len: usize, system: *mut f64, system_len: usize,
+        elimination: *mut f64, elimination_len: usize, vector: *mut f64, vector_len: usize,
+        memory: *mut f64, memory_len: usize,
+    ) -> DcAnswer;
+    pub fn savrunte_transient(
+        sheet: *const u8, sheet_len: usize, points: *const u8, points_len: usize,
+        nodes: usize, sources: usize, options: Options,
+        base: *mut f64, base_len: usize, system: *mut f64, system_len: usize,
+        elimination: *mut f64, elimination_len: usize, vector: *mut f64, vector_len: usize,
+        memory: *mut f64, memory_len: usize, rows: *mut f64, rows_len: usize,
+    ) -> TransientAnswer;
+    pub fn savrunte_solve(matrix: *mut f64, matrix_len: usize, vector: *mut f64, vector_len: usize, rows: usize) -> u64;
+    pub fn savrunte_convergence(x: *const f64, x_len: usize, y: *const f64, y_len: usize, nodes: usize, options: Options) -> ConvergenceAnswer;
+    pub fn savrunte_judge(
+        system: *const f64, system_len: usize, vector: *const f64, vector_len: usize,
+        tolerances: *const f64, tolerances_len: usize, rows: usize,
+    ) -> JudgeAnswer;
+    pub fn savrunte_exp(x: f64) -> f64;
+    pub fn savrunte_ln(x: f64) -> f64;
+    pub fn savrunte_sin(x: f64) -> SinAnswer;
+    pub fn savrunte_pattern(points: *const u8, points_len: usize, t_delay: f64, repeat: f64, t: f64) -> f64;
+    pub fn savrunte_capacitor(value: f64, v: f64, step: f64) -> Companion;
+    pub fn savrunte_diode(i_sat: f64, tdegc: f64, v: f64, memory: f64, options: Options) -> DiodeAnswer;
+}

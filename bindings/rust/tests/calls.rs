@@ -1,0 +1,199 @@
+//! The bench's cases and wrong calls, through the safe crate and the archive.
+use savrunte::*;
+
+fn bits(x: &[f64]) -> Vec<u64> {
+    x.iter().map(|v| v.to_bits()).collect()
+}
+
+/// Runs DC with buffers of the very lengths.
+fn dc(records: &[Record], nodes: usize, sources: usize, options: Options) -> (Dc, Lent) {
+    let mut lent = Lent::new(nodes, sources, records.len());
+    let answer = dc_operating_point(&Record::sheet(records), &[], nodes, sources, options, &mut lent.buffers());
+    (answer, lent)
+}
+
+fn ended(verdict: Verdict, passes: u64) -> Dc {
+    Dc::Ended { verdict, passes }
+}
+
+fn case_b() -> [Record; 3] {
+    [
+        Record::V { p: 1, n: 0, value: 4.0, source: 0 },
+        Record::R { p: 1, n: 2, value: 1.0 },
+        Record::R { p: 2, n: 0, value: 1.0 },
+    ]
+}
+
+#[test]
+fn operating_points() {
+    let a = [Record::I { p: 0, n: 1, value: 2.0 }, Record::R { p: 1, n: 0, value: 0.5 }];
+    let (answer, lent) = dc(&a, 2, 0, Options::bench());
+    assert_eq!(answer, ended(Verdict::Settled, 2));
+    assert_eq!(lent.vector, [0.0, 1.0]);
+
+    let (answer, _) = dc(&a, 2, 0, Options { itl1: 0, ..Options::bench() });
+    assert_eq!(answer, ended(Verdict::PassesUsedUp, 1));
+
+    let (answer, lent) = dc(&case_b(), 3, 1, Options::bench());
+    assert_eq!(answer, ended(Verdict::Settled, 2));
+    assert_eq!(lent.vector, [0.0, 4.0, 2.0, -2.0]);
+
+    let c = [Record::V { p: 0, n: 0, value: 5.0, source: 0 }];
+    let (answer, lent) = dc(&c, 1, 1, Options::bench());
+    assert_eq!(answer, ended(Verdict::Settled, 1));
+    assert_eq!(lent.vector, [0.0, 0.0]);
+
+    let e = [Record::R { p: 2, n: 0, value: 1.0 }, Record::I { p: 0, n: 2, value: 1.0 }];
+    let (answer, _) = dc(&e, 3, 0, Options::bench());
+    assert_eq!(answer, ended(Verdict::ConvergenceError, 2));
+}
+
+#[test]
+fn a_charging_capacitor() {
+    let j = [
+        Record::R { p: 1, n: 0, value: 1.0 },
+        Record::C { p: 1, n: 0, value: 1.0 },
+        Record::I { p: 0, n: 1, value: 1.0 },
+    ];
+    let mut lent = Lent::new(2, 0, 3);
+    let mut rows = vec![-7.0; 3 * 4 + 2];
+    let answer = transient_analysis(&Record::sheet(&j), &[], 2, 0, Options::bench(), &mut lent.buffers(), &mut rows);
+    assert_eq!(answer, Transient::Ended { verdict: Verdict::Settled, dc_verdict: Verdict::Settled, passes: 8, rows: 4, end: 2.0 });
+    assert_eq!(rows, [0.0, 0.0, 1.0, 1.0, 0.0, 0.5, 2.0, 0.0, 0.75, 2.0, 0.0, 0.875, -7.0, -7.0]);
+
+    let options = Options { budget: 7, ..Options::bench() };
+    let answer = transient_analysis(&Record::sheet(&j), &[], 2, 0, options, &mut lent.buffers(), &mut rows);
+    assert_eq!(answer, Transient::Ended { verdict: Verdict::BudgetSpent, dc_verdict: Verdict::Settled, passes: 7, rows: 3, end: 2.0 });
+}
+
+/// Every wrong call is refused by its number and place, and leaves every buffer as it was.
+#[test]
+fn wrong_calls_change_nothing() {
+    let sheet = Record::sheet(&case_b());
+    let good = Options::bench();
+    let mut node = sheet.clone();
+    node[40 + 4] = 9; // record 1, second node
+    let mut unused = sheet.clone();
+    unused[80 + 39] = 1; // record 2
+    let mut kind = sheet.clone();
+    kind[0] = 11;
+    let mut source = sheet.clone();
+    source[10] = 1;
+    let wrong: Vec<(&[u8], &[u8], usize, usize, Options, Refusal, usize)> = vec![
+        (&sheet, &[], 0, 1, good, Refusal::Order, 0),
+        (&sheet, &[], 3, 46, good, Refusal::Order, 0),
+        (&sheet, &[], usize::MAX, usize::MAX, good, Refusal::Order, 0),
+        (&sheet[..119], &[], 3, 1, good, Refusal::Sheet, 0),
+        (&sheet, &[0; 15], 3, 1, good, Refusal::Points, 0),
+        (&sheet, &[], 3, 1, Options { budget: 0, ..good }, Refusal::Counts, 0),
+        (&sheet, &[], 3, 1, Options { budget: 1_000_001, ..good }, Refusal::Counts, 0),
+        (&sheet, &[], 3, 1, Options { itl3: 10_001, ..good }, Refusal::Counts, 0),
+        (&sheet, &[], 3, 45, good, Refusal::Room, 0),
+        (&kind, &[], 3, 1, good, Refusal::Kind, 0),
+        (&unused, &[], 3, 1, good, Refusal::Unused, 2),
+        (&node, &[], 3, 1, good, Refusal::Node, 1),
+        (&source, &[], 3, 1, good, Refusal::Source, 0),
+    ];
+    for (sheet, points, nodes, sources, options, refusal, place) in wrong {
+        let mut lent = Lent::new(3, 1, 3);
+        for part in [&mut lent.base, &mut lent.system, &mut lent.elimination, &mut lent.vector, &mut lent.memory] {
+            part.fill(0.25);
+        }
+        let before = lent.clone();
+        let mut rows = vec![0.5; 10];
+        let answer = dc_operating_point(sheet, points, nodes, sources, options, &mut lent.buffers());
+        assert_eq!(answer, Dc::Refused { refusal, place });
+        let answer = transient_analysis(sheet, points, nodes, sources, options, &mut lent.buffers(), &mut rows);
+        assert_eq!(answer, Transient::Refused { refusal, place });
+        assert_eq!(lent, before);
+        assert_eq!(rows, [0.5; 10]);
+    }
+}
+
+/// Each buffer one float short is refused by 5; empty slices too.
+#[test]
+fn short_buffers_are_refused() {
+    let sheet = Record::sheet(&case_b());
+    for short in 0..6 {
+        let mut lent = Lent::new(3, 1, 3);
+        let mut rows = vec![0.5; 5];
+        match short {
+            0 => lent.base.truncate(19),
+            1 => lent.system.truncate(19),
+            2 => lent.elimination.truncate(19),
+            3 => lent.vector.truncate(3),
+            4 => lent.memory.truncate(2),
+            _ => rows.truncate(4),
+        }
+        let before = lent.clone();
+        let answer = transient_analysis(&sheet, &[], 3, 1, Options::bench(), &mut lent.buffers(), &mut rows);
+        assert_eq!(answer, Transient::Refused { refusal: Refusal::Room, place: 0 });
+        assert_eq!(lent, before);
+    }
+    let none = &mut Buffers { base: &mut [], system: &mut [], elimination: &mut [], vector: &mut [], memory: &mut [] };
+    assert_eq!(dc_operating_point(&[], &[], 1, 0, Options::bench(), none), Dc::Refused { refusal: Refusal::Room, place: 0 });
+    assert_eq!(solve(&mut [], &mut [], 0), Err(Refusal::Order));
+    assert_eq!(solve(&mut [1.0; 6], &mut [7.0], 2), Err(Refusal::Room));
+    assert_eq!(judge(&[], &[], &[], 0), Judgement::Refused(Refusal::Order));
+    assert_eq!(judge(&[0.0; 49 * 50], &[0.0; 49], &[0.0; 49], 49), Judgement::Refused(Refusal::Order));
+}
+
+#[test]
+fn a_longer_buffer_keeps_its_rest() {
+    let mut lent = Lent::new(3, 1, 3);
+    for part in [&mut lent.base, &mut lent.system, &mut lent.elimination, &mut lent.vector, &mut lent.memory] {
+        part.extend([0.125, 0.125]);
+    }
+    let answer = dc_operating_point(&Record::sheet(&case_b()), &[], 3, 1, Options::bench(), &mut lent.buffers());
+    assert_eq!(answer, ended(Verdict::Settled, 2));
+    for part in [&lent.base, &lent.system, &lent.elimination, &lent.vector, &lent.memory] {
+        assert_eq!(part[part.len() - 2..], [0.125, 0.125]);
+    }
+    // no diode in the sheet: the memory is untouched
+    assert_eq!(lent.memory[..3], [0.0; 3]);
+}
+
+#[test]
+fn the_judge_is_exact() {
+    let (_, lent) = dc(&case_b(), 3, 1, Options::bench());
+    assert_eq!(judge(&lent.system, &lent.vector, &[0.0; 4], 4), Judgement::Accepted);
+    let off = [0.0, 4.0, 2.0, -1.0];
+    assert_eq!(judge(&lent.system, &off, &[0.5; 4], 4), Judgement::Rejected { row: 1 });
+    assert_eq!(judge(&lent.system, &off, &[1.0; 4], 4), Judgement::Accepted);
+    assert_eq!(judge(&lent.system, &off, &[f64::NAN; 4], 4), Judgement::Refused(Refusal::Number));
+    assert_eq!(judge(&lent.system, &lent.vector, &[-0.0; 4], 4), Judgement::Accepted);
+
+    // 2^-1000 + 2^1000 - 2^1000 is not zero
+    let mut system = [0.0; 20];
+    system[6] = 2f64.powi(-1000);
+    system[7] = 2f64.powi(1000);
+    system[8] = 2f64.powi(1000);
+    assert_eq!(judge(&system, &[0.0, 1.0, 1.0, -1.0], &[0.0; 4], 4), Judgement::Rejected { row: 1 });
+}
+
+#[test]
+fn convergence_answers() {
+    let o = Options::bench();
+    assert_eq!(convergence_check(&[f64::NAN, 5.0], &[0.0, 0.0], 2, o), Convergence::No);
+    assert_eq!(convergence_check(&[5.0, f64::NAN], &[0.0, 0.0], 2, o), Convergence::Error);
+    assert_eq!(convergence_check(&[0.0, 1.0], &[0.0, f64::NAN], 2, o), Convergence::Yes);
+    assert_eq!(convergence_check(&[0.0, 1.0], &[0.0], 2, o), Convergence::Refused(Refusal::Room));
+}
+
+#[test]
+fn functions_and_models() {
+    assert_eq!((exp(0.0), exp(-0.0), exp(710.0), exp(-709.0)), (1.0, 1.0, f64::INFINITY, 0.0));
+    assert_eq!((ln(1.0), ln(0.0), ln(f64::INFINITY)), (0.0, f64::NEG_INFINITY, f64::INFINITY));
+    assert!(ln(-1.0).is_nan() && exp(f64::NAN).is_nan());
+    assert_eq!(sin(-0.0).map(f64::to_bits), Ok((-0.0f64).to_bits()));
+    assert!(sin(1048576.0).is_ok());
+    assert_eq!(sin(f64::from_bits(1048576f64.to_bits() + 1)), Err(Refusal::Sine));
+    assert!((exp(1.0) - std::f64::consts::E).abs() < 1e-11);
+
+    let g = points(&[(0.0, 0.0), (1.0, 4.0)]);
+    let levels: Vec<f64> = [0.5, 1.0, 2.0, -0.5].iter().map(|t| pattern(&g, 0.0, -1.0, *t)).collect();
+    assert_eq!(bits(&levels), bits(&[2.0, 0.0, 4.0, 0.0]));
+    assert!(pattern(&points(&[(0.0, 3.0), (1.0, 4.0)]), 0.0, -1.0, 0.0).is_nan());
+    assert_eq!(capacitor(1.0, 3.0, 0.5), (2.0, 6.0));
+    assert_eq!(diode(f64::INFINITY, 27.0, 0.5, 0.0, Options::bench()), Diode::NotFinite);
+}

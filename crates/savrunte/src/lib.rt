@@ -1,0 +1,321 @@
+// The C door: each exported function is thin over a proved one, and its answer is that one's as numbers. The header is include/savrunte.h; `rt staticlib savrunte` makes the archive.
+// Every function is total. On a refusal every other field of the answer is 0.
+ghost use mathlib.Core.Path.{_≡_};
+ghost use mathlib.Core.Bool.{true, false};
+ghost use mathlib.Core.List.{[]};
+ghost use Prim.Native.Nat.{_/_};
+ghost use lib.ListN.{length};
+ghost use Rattle.convergence.specs.Convergence.{convergenceOf};
+ghost use Rattle.engine.specs.Engine.{sizesOf, runOf, Scratched};
+ghost use Rattle.functions.specs.Exp.{expOf};
+ghost use Rattle.functions.specs.Ln.{lnOf};
+ghost use Rattle.functions.specs.Sin.{sinOf};
+ghost use Rattle.models.specs.Capacitor.{companionOf};
+ghost use Rattle.models.specs.Diode.{linearized};
+ghost use Rattle.models.specs.Vpwl.{patternAt, pointsFrom};
+ghost use Rattle.judge.specs.Judge.{judgeOf};
+ghost use Rattle.solve.specs.Solve.{solveOf, solvedAs};
+ghost use Rattle.savrunte.specs.Runs.{dcAnswer, transientAnswer, dcOf, dcResult, transientOf, transientResult};
+ghost use Rattle.savrunte.specs.Answers.{sinAnswer, convergenceAnswer, judgeAnswer, companion, diodeAnswer};
+use convergence::Convergence;
+use engine::Outcome;
+use functions::Sine;
+use judge::Judged;
+use models::diode::Linear;
+use options::Options;
+
+#[repr(C)]
+pub struct SinAnswer {
+    pub refusal: u64,
+    pub value: f64,
+}
+
+#[repr(C)]
+pub struct ConvergenceAnswer {
+    pub refusal: u64,
+    pub state: u64,
+}
+
+#[repr(C)]
+pub struct JudgeAnswer {
+    pub refusal: u64,
+    pub row: u64,
+}
+
+#[repr(C)]
+pub struct CompanionAnswer {
+    pub g: f64,
+    pub i: f64,
+}
+
+#[repr(C)]
+pub struct DiodeAnswer {
+    pub verdict: u64,
+    pub g: f64,
+    pub i: f64,
+    pub memory: f64,
+}
+
+#[repr(C)]
+pub struct DcAnswer {
+    pub refusal: u64,
+    pub place: u64,
+    pub verdict: u64,
+    pub passes: u64,
+}
+
+#[repr(C)]
+pub struct TransientAnswer {
+    pub refusal: u64,
+    pub place: u64,
+    pub verdict: u64,
+    pub dc_verdict: u64,
+    pub passes: u64,
+    pub rows: u64,
+    pub end: f64,
+}
+
+#[no_mangle]
+pub extern "C" fn savrunte_dc(
+    sheet: &[u8],
+    points: &[u8],
+    nodes: usize,
+    sources: usize,
+    options: Options,
+    base: &mut [f64],
+    system: &mut [f64],
+    elimination: &mut [f64],
+    vector: &mut [f64],
+    memory: &mut [f64],
+) -> DcAnswer
+    ensures all { λ r. ⌜ dcOf r (now (base .exit)) (now (system .exit)) (now (vector .exit)) (now (memory .exit)) ≡ dcResult (runOf options (sizesOf false nodes sources (now (sheet .entry)) (now (points .entry)) (now (base .entry)) (now (system .entry)) (now (elimination .entry)) (now (vector .entry)) (now (memory .entry)) []) (now (sheet .entry)) (now (points .entry)) (now (base .entry)) (now (system .entry)) (now (vector .entry)) (now (memory .entry)) []) ⌝ }
+    ensures scratch { λ r. ⌜ Scratched options (sizesOf false nodes sources (now (sheet .entry)) (now (points .entry)) (now (base .entry)) (now (system .entry)) (now (elimination .entry)) (now (vector .entry)) (now (memory .entry)) []) (now (sheet .entry)) (now (elimination .entry)) (now (elimination .exit)) ⌝ }
+{
+    let r = engine::dc_operating_point(
+        sheet,
+        points,
+        nodes,
+        sources,
+        options,
+        base,
+        system,
+        elimination,
+        vector,
+        memory,
+    );
+    dc_answer(r)
+}
+
+#[no_mangle]
+pub extern "C" fn savrunte_transient(
+    sheet: &[u8],
+    points: &[u8],
+    nodes: usize,
+    sources: usize,
+    options: Options,
+    base: &mut [f64],
+    system: &mut [f64],
+    elimination: &mut [f64],
+    vector: &mut [f64],
+    memory: &mut [f64],
+    rows: &mut [f64],
+) -> TransientAnswer
+    ensures all { λ r. ⌜ transientOf r (now (base .exit)) (now (system .exit)) (now (vector .exit)) (now (memory .exit)) (now (rows .exit)) ≡ transientResult (runOf options (sizesOf true nodes sources (now (sheet .entry)) (now (points .entry)) (now (base .entry)) (now (system .entry)) (now (elimination .entry)) (now (vector .entry)) (now (memory .entry)) (now (rows .entry))) (now (sheet .entry)) (now (points .entry)) (now (base .entry)) (now (system .entry)) (now (vector .entry)) (now (memory .entry)) (now (rows .entry))) ⌝ }
+    ensures scratch { λ r. ⌜ Scratched options (sizesOf true nodes sources (now (sheet .entry)) (now (points .entry)) (now (base .entry)) (now (system .entry)) (now (elimination .entry)) (now (vector .entry)) (now (memory .entry)) (now (rows .entry))) (now (sheet .entry)) (now (elimination .entry)) (now (elimination .exit)) ⌝ }
+{
+    let r = engine::transient_analysis(
+        sheet,
+        points,
+        nodes,
+        sources,
+        options,
+        base,
+        system,
+        elimination,
+        vector,
+        memory,
+        rows,
+    );
+    transient_answer(r)
+}
+
+#[no_mangle]
+pub extern "C" fn savrunte_exp(x: f64) -> f64
+    ensures { λ r. ⌜ r ≡ expOf x ⌝ }
+{
+    functions::exp(x)
+}
+
+#[no_mangle]
+pub extern "C" fn savrunte_ln(x: f64) -> f64
+    ensures { λ r. ⌜ r ≡ lnOf x ⌝ }
+{
+    functions::ln(x)
+}
+
+#[no_mangle]
+pub extern "C" fn savrunte_sin(x: f64) -> SinAnswer
+    ensures { λ r. ⌜ r ≡ sinAnswer (sinOf x) ⌝ }
+{
+    let s = functions::sin(x);
+    match s {
+        Sine::Value(y) => SinAnswer {
+            refusal: 0,
+            value: y,
+        },
+        Sine::Refused => SinAnswer {
+            refusal: 12,
+            value: 0.0,
+        },
+    }
+}
+
+#[no_mangle]
+pub extern "C" fn savrunte_convergence(
+    x: &[f64],
+    y: &[f64],
+    nodes: usize,
+    options: Options,
+) -> ConvergenceAnswer
+    ensures { λ r. ⌜ r ≡ convergenceAnswer (convergenceOf (now (x .entry)) (now (y .entry)) nodes options) ⌝ }
+{
+    let c = convergence::convergence_check(x, y, nodes, options);
+    match c {
+        Convergence::Yes => ConvergenceAnswer {
+            refusal: 0,
+            state: 0,
+        },
+        Convergence::No => ConvergenceAnswer {
+            refusal: 0,
+            state: 1,
+        },
+        Convergence::Error => ConvergenceAnswer {
+            refusal: 0,
+            state: 2,
+        },
+        Convergence::Refused => ConvergenceAnswer {
+            refusal: 5,
+            state: 0,
+        },
+    }
+}
+
+#[no_mangle]
+pub extern "C" fn savrunte_pattern(points: &[u8], t_delay: f64, repeat: f64, t: f64) -> f64
+    ensures { λ r. ⌜ r ≡ patternAt (pointsFrom (now (points .entry)) 0 (length (now (points .entry)) / 16)) «t_delay» repeat t ⌝ }
+{
+    let count = points.len() / 16;
+    models::vpwl::evaluate(points, 0, count, t_delay, repeat, t)
+}
+
+#[no_mangle]
+pub extern "C" fn savrunte_capacitor(value: f64, v: f64, step: f64) -> CompanionAnswer
+    ensures { λ r. ⌜ r ≡ companion (companionOf value v step) ⌝ }
+{
+    let c = models::capacitor::linearize(value, v, step);
+    CompanionAnswer { g: c.g, i: c.i }
+}
+
+#[no_mangle]
+pub extern "C" fn savrunte_diode(
+    i_sat: f64,
+    tdegc: f64,
+    v: f64,
+    memory: f64,
+    options: Options,
+) -> DiodeAnswer
+    ensures { λ r. ⌜ r ≡ diodeAnswer (linearized options «i_sat» tdegc v memory) ⌝ }
+{
+    let d = models::diode::linearize(options, i_sat, tdegc, v, memory);
+    match d {
+        Linear::Model { g, i, memory } => DiodeAnswer {
+            verdict: 0,
+            g: g,
+            i: i,
+            memory: memory,
+        },
+        Linear::NotFinite => DiodeAnswer {
+            verdict: 22,
+            g: 0.0,
+            i: 0.0,
+            memory: 0.0,
+        },
+    }
+}
+
+#[no_mangle]
+pub extern "C" fn savrunte_solve(matrix: &mut [f64], vector: &mut [f64], rows: usize) -> u64
+    ensures { λ r. ⌜ solvedAs r (now (matrix .exit)) (now (vector .exit)) ≡ solveOf rows (now (matrix .entry)) (now (vector .entry)) ⌝ }
+{
+    solve::solve(matrix, vector, rows) as u64
+}
+
+#[no_mangle]
+pub extern "C" fn savrunte_judge(
+    system: &[f64],
+    vector: &[f64],
+    tolerances: &[f64],
+    rows: usize,
+) -> JudgeAnswer
+    ensures { λ r. ⌜ r ≡ judgeAnswer rows (judgeOf rows (now (system .entry)) (now (vector .entry)) (now (tolerances .entry))) ⌝ }
+{
+    let j = judge::judge(system, vector, tolerances, rows);
+    match j {
+        Judged::Accepted => JudgeAnswer {
+            refusal: 0,
+            row: rows as u64,
+        },
+        Judged::Rejected(i) => JudgeAnswer {
+            refusal: 0,
+            row: i as u64,
+        },
+        Judged::Refused(k) => JudgeAnswer {
+            refusal: k as u64,
+            row: 0,
+        },
+    }
+}
+
+fn dc_answer(r: Outcome) -> DcAnswer
+    ensures { λ a. ⌜ a ≡ dcAnswer r ⌝ }
+{
+    match r {
+        Outcome::Refused(k, i) => DcAnswer {
+            refusal: k as u64,
+            place: i as u64,
+            verdict: 0,
+            passes: 0,
+        },
+        Outcome::Ended(e) => DcAnswer {
+            refusal: 0,
+            place: 0,
+            verdict: e.verdict as u64,
+            passes: e.passes,
+        },
+    }
+}
+
+fn transient_answer(r: Outcome) -> TransientAnswer
+    ensures { λ a. ⌜ a ≡ transientAnswer r ⌝ }
+{
+    match r {
+        Outcome::Refused(k, i) => TransientAnswer {
+            refusal: k as u64,
+            place: i as u64,
+            verdict: 0,
+            dc_verdict: 0,
+            passes: 0,
+            rows: 0,
+            end: 0.0,
+        },
+        Outcome::Ended(e) => TransientAnswer {
+            refusal: 0,
+            place: 0,
+            verdict: e.verdict as u64,
+            dc_verdict: e.dc as u64,
+            passes: e.passes,
+            rows: e.rows,
+            end: e.end,
+        },
+    }
+}

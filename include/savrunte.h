@@ -1,0 +1,156 @@
+/* Savrunte: a proved circuit engine. Link with libsavrunte.a (made by `rt staticlib savrunte`) and -lm (for fmod).
+ *
+ * Every function is total: it refuses by a number and changes nothing that was lent to it, or it runs and says how it ended.
+ * Numbers are listed in docs/NUMBERS.md. A slice is a pointer and then its length in elements; a length of 0 wants a pointer
+ * that is not null. On a refusal every other field of the answer is 0. N is nodes (ground included) plus sources.
+ */
+#ifndef SAVRUNTE_H
+#define SAVRUNTE_H
+
+#include <stddef.h>
+#include <stdint.h>
+
+#ifdef __cplusplus
+extern "C" {
+#endif
+
+/* ---- numbers ---- */
+
+enum savrunte_refusal {
+    SAVRUNTE_RUNS = 0,              /* not refused */
+    SAVRUNTE_REFUSED_ORDER = 1,     /* no node, or N above 48 */
+    SAVRUNTE_REFUSED_SHEET = 2,     /* sheet not whole records of 40 bytes, or above 256 */
+    SAVRUNTE_REFUSED_POINTS = 3,    /* points not whole records of 16 bytes, or above 1,024 */
+    SAVRUNTE_REFUSED_COUNTS = 4,    /* ITL1, ITL3 or ITL4 above 10,000; budget 0 or above 1,000,000 */
+    SAVRUNTE_REFUSED_ROOM = 5,      /* a lent buffer is too short */
+    SAVRUNTE_REFUSED_KIND = 6,      /* a record's kind is not 1 to 10 */
+    SAVRUNTE_REFUSED_UNUSED = 7,    /* byte 1 or an unused byte of a record is not zero */
+    SAVRUNTE_REFUSED_NODE = 8,      /* a node is not below the node count */
+    SAVRUNTE_REFUSED_SOURCE = 9,    /* a source number is not below the source count */
+    SAVRUNTE_REFUSED_RANGE = 10,    /* first point plus count is above the points given */
+    SAVRUNTE_REFUSED_NUMBER = 11,   /* judge: a number not finite, or a tolerance below zero */
+    SAVRUNTE_REFUSED_SINE = 12      /* sin: finite and beyond 2^20 in size */
+};
+
+enum savrunte_verdict {
+    SAVRUNTE_SETTLED = 0,           /* the last two vectors agree within the tolerances */
+    SAVRUNTE_PASSES_USED_UP = 20,   /* DC has used its ITL1 + 1 passes */
+    SAVRUNTE_CONVERGENCE_ERROR = 21,/* a number that is not finite */
+    SAVRUNTE_DIODE_NOT_FINITE = 22, /* a diode's current is not finite */
+    SAVRUNTE_STEP_TOO_SMALL = 23,   /* the time step fell below its least size */
+    SAVRUNTE_BUDGET_SPENT = 24,     /* the budget of passes is spent */
+    SAVRUNTE_NO_ROOM = 25,          /* no room for the next row */
+    SAVRUNTE_SINE_REFUSED = 26      /* a sine source was refused by 12 */
+};
+
+/* ---- options and answers, all by value ---- */
+
+/* Any float bits are allowed. GMIN, BOLTZMANN and CHARGE of the Rust engine: 1e-12, 1.3806488e-23, 1.603e-19. */
+typedef struct savrunte_options {
+    double reltol, vntol, abstol, tstart, tstop, tstep, fs, ft, rmin, rmax, gmin, boltzmann, charge;
+    uint64_t itl1, itl3, itl4, budget;
+} savrunte_options;
+
+typedef struct savrunte_dc_answer {
+    uint64_t refusal; /* 0, or 1 to 10 */
+    uint64_t place;   /* the faulty record, for 6 to 10 */
+    uint64_t verdict; /* 0, 20, 21, 22 or 24 */
+    uint64_t passes;  /* passes solved to the end */
+} savrunte_dc_answer;
+
+typedef struct savrunte_transient_answer {
+    uint64_t refusal, place, verdict;
+    uint64_t dc_verdict; /* the verdict of the DC run that comes first */
+    uint64_t passes;     /* DC and transient together */
+    uint64_t rows;       /* rows written */
+    double end;          /* the time reached */
+} savrunte_transient_answer;
+
+typedef struct savrunte_convergence_answer {
+    uint64_t refusal; /* 0, or 5 when y is shorter than x */
+    uint64_t state;   /* 0 yes, 1 no, 2 error */
+} savrunte_convergence_answer;
+
+typedef struct savrunte_judge_answer {
+    uint64_t refusal; /* 0, 1, 5 or 11 */
+    uint64_t row;     /* the first row that is not within its tolerance; the row count when accepted */
+} savrunte_judge_answer;
+
+typedef struct savrunte_sin_answer {
+    uint64_t refusal; /* 0 or 12 */
+    double value;
+} savrunte_sin_answer;
+
+typedef struct savrunte_companion {
+    double g, i; /* the conductance and the current of a companion model */
+} savrunte_companion;
+
+typedef struct savrunte_diode_answer {
+    uint64_t verdict;    /* 0, or 22 when the diode's current is not finite */
+    double g, i, memory; /* conductance, current, the limited voltage to remember */
+} savrunte_diode_answer;
+
+/* ---- runs ---- */
+
+/* The DC operating point. Lent: three matrices of at least N(N+1) floats, a vector of N, one float of memory for each record.
+ * Afterwards: base matrix; the last system stamped whole (zeros if none); elimination is scratch; the last solved vector
+ * (zeros if none); each diode's last limited voltage, other records' floats untouched. Nothing past those lengths changes. */
+savrunte_dc_answer savrunte_dc(
+    const uint8_t *sheet, size_t sheet_len,
+    const uint8_t *points, size_t points_len,
+    size_t nodes, size_t sources, savrunte_options options,
+    double *base, size_t base_len,
+    double *system, size_t system_len,
+    double *elimination, size_t elimination_len,
+    double *vector, size_t vector_len,
+    double *memory, size_t memory_len);
+
+/* The transient analysis: DC first, then steps. Rows of N + 1 floats, time and then the vector, are written from the front of
+ * `rows` (at least one must fit); what lies past the rows written does not change. */
+savrunte_transient_answer savrunte_transient(
+    const uint8_t *sheet, size_t sheet_len,
+    const uint8_t *points, size_t points_len,
+    size_t nodes, size_t sources, savrunte_options options,
+    double *base, size_t base_len,
+    double *system, size_t system_len,
+    double *elimination, size_t elimination_len,
+    double *vector, size_t vector_len,
+    double *memory, size_t memory_len,
+    double *rows, size_t rows_len);
+
+/* ---- parts of a run ---- */
+
+/* Elimination with pivoting and back substitution: a matrix of `rows` by `rows` + 1, row after row, and a vector of `rows`.
+ * Answers 0, or 1 or 5. Afterwards the matrix is the eliminated one and the vector the answer. */
+uint64_t savrunte_solve(double *matrix, size_t matrix_len, double *vector, size_t vector_len, size_t rows);
+
+/* Compares two vectors: places below `nodes` with VNTOL, the others with ABSTOL. */
+savrunte_convergence_answer savrunte_convergence(
+    const double *x, size_t x_len, const double *y, size_t y_len, size_t nodes, savrunte_options options);
+
+/* Accepts exactly when in every row the coefficients times the vector less the right side, added up without any rounding,
+ * is within that row's tolerance. Changes nothing. */
+savrunte_judge_answer savrunte_judge(
+    const double *system, size_t system_len, const double *vector, size_t vector_len,
+    const double *tolerances, size_t tolerances_len, size_t rows);
+
+/* ---- functions and models ---- */
+
+double savrunte_exp(double x);
+double savrunte_ln(double x);
+savrunte_sin_answer savrunte_sin(double x);
+
+/* The level at time t of a pattern over all the points given (16-byte records: time, level). */
+double savrunte_pattern(const uint8_t *points, size_t points_len, double t_delay, double repeat, double t);
+
+/* The companion model of a capacitor at voltage v over one step. */
+savrunte_companion savrunte_capacitor(double value, double v, double step);
+
+/* The companion model of a diode at voltage v, with what it remembers. */
+savrunte_diode_answer savrunte_diode(double i_sat, double tdegc, double v, double memory, savrunte_options options);
+
+#ifdef __cplusplus
+}
+#endif
+
+#endif
