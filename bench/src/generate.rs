@@ -1,0 +1,474 @@
+//! Jobs from a seed and a place: all ten kinds, N from 1 to 48, sound circuits and wild ones,
+//! odd options, short budgets and buffers, damaged calls.
+
+use crate::job::*;
+use crate::random::Random;
+
+/// Sorts of jobs, by what they are meant to reach.
+#[derive(Clone, Copy, PartialEq, Debug)]
+pub enum Sort {
+    Sound,
+    Round,
+    Wild,
+    Counts,
+    OddOptions,
+    Short,
+    HotDiodes,
+    FastSines,
+    Damaged,
+}
+
+fn sort(r: &mut Random) -> Sort {
+    match r.below(100) {
+        0..=34 => Sort::Sound,
+        35..=54 => Sort::Round,
+        55..=66 => Sort::Wild,
+        67..=72 => Sort::Counts,
+        73..=80 => Sort::OddOptions,
+        81..=86 => Sort::Short,
+        87..=90 => Sort::HotDiodes,
+        91..=93 => Sort::FastSines,
+        _ => Sort::Damaged,
+    }
+}
+
+/// Mostly small, now and then up to the greatest.
+fn size(r: &mut Random) -> usize {
+    match r.below(24) {
+        0 => 1,
+        1..=12 => 2 + r.below(4),
+        13..=19 => 4 + r.below(7),
+        20..=22 => 10 + r.below(15),
+        _ => 24 + r.below(25),
+    }
+}
+
+struct Maker<'a> {
+    r: &'a mut Random,
+    sort: Sort,
+    nodes: usize,
+    points: Vec<(f64, f64)>,
+}
+
+impl<'a> Maker<'a> {
+    fn node(&mut self) -> usize {
+        if self.r.one_in(4) {
+            0
+        } else {
+            self.r.below(self.nodes)
+        }
+    }
+
+    fn level(&mut self) -> f64 {
+        match self.sort {
+            Sort::Wild => self.r.any(),
+            Sort::Round => self.r.round(),
+            Sort::HotDiodes => self.r.decades(-1.0, 4.0) * self.r.sign(),
+            _ => match self.r.below(4) {
+                0 => self.r.round(),
+                1 => self.r.between(-1.0, 1.0),
+                _ => self.r.between(-12.0, 12.0),
+            },
+        }
+    }
+
+    fn ohms(&mut self) -> f64 {
+        match self.sort {
+            Sort::Wild => self.r.any(),
+            Sort::Round => self.r.pick(&[0.5, 1.0, 1.0, 2.0, 4.0, 10.0, -1.0]),
+            _ => self.r.decades(-1.0, 6.0),
+        }
+    }
+
+    fn pattern(&mut self) -> (usize, usize) {
+        // sometimes the points of an earlier source again
+        if !self.points.is_empty() && self.r.one_in(4) {
+            let first = self.r.below(self.points.len() + 1);
+            let count = self.r.below(self.points.len() - first + 1);
+            return (first, count);
+        }
+        let first = self.points.len();
+        let count = match self.r.below(10) {
+            0 => 0,
+            1 => 1,
+            _ => 2 + self.r.below(5),
+        };
+        let mut t = if self.r.one_in(3) { self.r.between(0.0, 0.5) } else { 0.0 };
+        for i in 0..count {
+            let v = match self.r.below(8) {
+                0 => self.r.any(),
+                1..=4 => self.r.round(),
+                _ => self.r.between(-5.0, 5.0),
+            };
+            let level = if i == 0 && !self.r.one_in(3) { 0.0 } else { v };
+            self.points.push((t, level));
+            t += match self.r.below(12) {
+                0 => 0.0,
+                1 => -self.r.unit(),
+                2..=6 => self.r.pick(&[0.1, 0.25, 0.5, 1.0]),
+                _ => self.r.between(0.0, 1.0),
+            };
+            if self.r.one_in(60) {
+                t = self.r.special();
+            }
+        }
+        (first, count)
+    }
+
+    fn element(&mut self, kind: u8) -> Element {
+        let a = self.node();
+        let mut b = self.node();
+        if a == b && !self.r.one_in(4) {
+            b = if a == 0 { self.r.below(self.nodes) } else { 0 };
+        }
+        let mut e = Element::new(kind, a, b);
+        match kind {
+            1 => e.value[0] = self.ohms(),
+            2 | 3 => e.value[0] = self.level(),
+            4 => {
+                e.value[0] = match self.sort {
+                    Sort::Wild => self.r.any(),
+                    Sort::HotDiodes => self.r.decades(-20.0, 3.0),
+                    _ => match self.r.below(4) {
+                        0 => 1e-12,
+                        1 => 1.0,
+                        _ => self.r.decades(-16.0, -6.0),
+                    },
+                };
+                e.value[1] = match self.r.below(12) {
+                    0 => self.r.between(-500.0, 500.0),
+                    1 => self.r.pick(&[-363.0, 0.0, 27.0, -400.0]),
+                    2 => self.r.any(),
+                    _ => self.r.between(-60.0, 150.0),
+                };
+            }
+            5 | 6 => {
+                e.value[0] = if self.r.one_in(2) { 0.0 } else { self.level() };
+                e.value[1] = self.level();
+                e.value[2] = match self.sort {
+                    Sort::FastSines => self.r.decades(4.0, 9.0),
+                    Sort::Wild => self.r.any(),
+                    _ => self.r.decades(-2.0, 4.0),
+                };
+            }
+            7 => {
+                let (first, count) = self.pattern();
+                e.first = first as u16;
+                e.count = count as u16;
+                e.value[0] = match self.r.below(6) {
+                    0 => self.r.between(-1.0, 1.0),
+                    1 => self.r.any(),
+                    _ => self.r.pick(&[0.0, 0.0, 0.1, 0.5]),
+                };
+                e.value[1] = match self.r.below(8) {
+                    0 => self.r.any(),
+                    1 => -0.0,
+                    _ => self.r.pick(&[-1.0, 0.0, 1.0]),
+                };
+            }
+            8 => {
+                e.value[0] = match self.sort {
+                    Sort::Wild => self.r.any(),
+                    Sort::Round => self.r.pick(&[0.25, 0.5, 1.0, 2.0, 0.0]),
+                    _ => self.r.decades(-12.0, 0.0),
+                }
+            }
+            _ => {
+                e.cp = self.node() as u16;
+                e.cn = self.node() as u16;
+                e.value[0] = match self.sort {
+                    Sort::Wild => self.r.any(),
+                    Sort::Round => self.r.round(),
+                    _ => self.r.between(-10.0, 10.0),
+                };
+            }
+        }
+        e
+    }
+}
+
+/// Every node stands in a record: a bare one gets a resistor.
+fn tie(m: &mut Maker, elements: &mut Vec<Element>) {
+    for node in 1..m.nodes {
+        let named = elements.iter().any(|e| {
+            let n = node as u16;
+            e.a == n || e.b == n || (e.has_controls() && (e.cp == n || e.cn == n))
+        });
+        if !named || m.r.one_in(2) {
+            let mut e = m.element(1);
+            e.a = node as u16;
+            if m.r.one_in(2) {
+                e.b = 0;
+            }
+            let at = m.r.below(elements.len() + 1);
+            elements.insert(at, e);
+        }
+    }
+}
+
+fn options(r: &mut Random, sort: Sort) -> Options {
+    let mut o = Options::usual();
+    if r.one_in(3) {
+        o.reltol = r.pick(&[1e-4, 1e-3, 1e-6, 0.0, 0.1]);
+        o.vntol = r.pick(&[1e-6, 1e-9, 0.0, 1e-3]);
+        o.abstol = r.pick(&[1e-9, 1e-12, 0.0, 1e-6]);
+    }
+    o.itl1 = r.pick(&[0, 1, 2, 5, 10, 50, 50, 100]);
+    o.itl3 = r.pick(&[0, 1, 2, 3, 6, 6, 10]);
+    o.itl4 = r.pick(&[0, 1, 2, 3, 5, 10, 10, 50]);
+    o.tstep = match r.below(3) {
+        0 => r.pick(&[1.0, 0.5, 0.1, 0.25]),
+        _ => r.decades(-6.0, 0.0),
+    };
+    o.fs = r.pick(&[1.0, 1.0, 0.25, 0.5, 0.1]);
+    o.ft = r.pick(&[0.25, 0.5, 0.125, 0.9, 1.0]);
+    o.rmin = r.pick(&[0.1, 0.01, 1e-3, 1e-6, 1e-9, 0.5, 1e3]);
+    o.rmax = r.pick(&[1.0, 2.0, 5.0, 5.0, 0.5, 10.0]);
+    let steps = match r.below(8) {
+        0 => 0.5,
+        1..=5 => r.between(1.0, 12.0),
+        _ => r.between(10.0, 40.0),
+    };
+    o.tstop = o.tstep * steps;
+    o.tstart = match r.below(6) {
+        0 => o.tstop * r.unit(),
+        1 => o.tstop * r.between(0.5, 1.5),
+        _ => 0.0,
+    };
+    o.budget = r.pick(&[300, 300, 600, 1000]);
+    if sort == Sort::OddOptions {
+        let mut w = o.words();
+        for _ in 0..1 + r.below(3) {
+            let i = r.below(13);
+            w[i] = match r.below(4) {
+                0 => r.special().to_bits(),
+                1 => r.round().to_bits(),
+                2 => r.bits().to_bits(),
+                _ => (-f64::from_bits(w[i])).to_bits(),
+            };
+        }
+        if r.one_in(4) {
+            w[13 + r.below(3)] = r.pick(&[0, 1, 9_999, 10_000]);
+        }
+        o = Options::of_words(&w);
+        o.budget = r.pick(&[1, 7, 40, 200]);
+    }
+    o
+}
+
+fn numbers(r: &mut Random, elements: &mut [Element]) -> usize {
+    let sources = elements.iter().filter(|e| e.has_source()).count();
+    let mut order: Vec<usize> = (0..sources).collect();
+    match r.below(6) {
+        0 => {
+            for i in (1..sources).rev() {
+                order.swap(i, r.below(i + 1));
+            }
+        }
+        1 => order = (0..sources).map(|_| r.below(sources)).collect(),
+        _ => {}
+    }
+    let mut next = 0;
+    for e in elements.iter_mut().filter(|e| e.has_source()) {
+        e.source = order[next] as u16;
+        next += 1;
+    }
+    sources
+}
+
+/// The job of a seed and a place.
+pub fn job(seed: u64, place: u64) -> (Job, Sort) {
+    let mut r = Random::new(seed, place);
+    let sort = sort(&mut r);
+    (make(&mut r, sort), sort)
+}
+
+/// A job of one sort.
+pub fn make(r: &mut Random, sort: Sort) -> Job {
+    let unknowns = size(r);
+    let most_sources = r.below((unknowns / 2).min(8) + 1);
+    let nodes = unknowns - most_sources.min(unknowns - 1);
+    let options = options(r, sort);
+    let transient = !r.one_in(4);
+    let mut m = Maker { r, sort, nodes, points: Vec::new() };
+    let mut elements = Vec::new();
+    let count = match m.r.below(16) {
+        0 => 0,
+        1 => m.r.below(3 * nodes + 20),
+        _ => 1 + m.r.below(2 * nodes + 2),
+    };
+    let mut sources = 0;
+    for _ in 0..count {
+        let mut kind = match sort {
+            Sort::HotDiodes if m.r.one_in(3) => 4,
+            Sort::FastSines if m.r.one_in(3) => 5 + m.r.below(2) as u8,
+            _ => m.r.pick(&[1, 1, 1, 2, 3, 3, 4, 4, 5, 6, 7, 7, 8, 8, 9, 10]),
+        };
+        if matches!(kind, 3 | 6 | 7 | 9) {
+            if sources == most_sources {
+                kind = m.r.pick(&[1, 2, 4, 5, 8, 10]);
+            } else {
+                sources += 1;
+            }
+        }
+        let e = m.element(kind);
+        elements.push(e);
+    }
+    if !m.r.one_in(40) {
+        tie(&mut m, &mut elements);
+    }
+    let points = m.points.clone();
+    // a job may repeat a record
+    if !elements.is_empty() && r.one_in(12) {
+        let mut e = elements[r.below(elements.len())];
+        if e.has_source() {
+            e = Element::new(1, e.a as usize, e.b as usize);
+            e.value[0] = 1.0;
+        }
+        elements.push(e);
+    }
+    elements.truncate(256);
+    let sources = numbers(r, &mut elements);
+    let mut job = Job {
+        transient,
+        nodes: nodes as u64,
+        sources: sources as u64,
+        options,
+        sheet: Vec::new(),
+        points: Vec::new(),
+        lengths: [0; 6],
+    };
+    job.set_elements(&elements);
+    job.set_pattern(&points);
+    if sort == Sort::Counts {
+        counts(r, &mut job);
+    }
+    job.fit(200);
+    if r.one_in(5) {
+        for l in job.lengths.iter_mut() {
+            *l += r.below(4);
+        }
+    }
+    if sort == Sort::Short {
+        shorten(r, &mut job);
+    }
+    if sort == Sort::Damaged {
+        damage(r, &mut job);
+    }
+    job
+}
+
+/// Counts and constants that are not the Rust's own.
+fn counts(r: &mut Random, job: &mut Job) {
+    let spare = 48 - (job.nodes + job.sources);
+    if spare > 0 && r.one_in(2) {
+        job.nodes += 1 + r.below(spare.min(3) as usize) as u64;
+    }
+    let spare = 48 - (job.nodes + job.sources);
+    if spare > 0 && r.one_in(2) {
+        job.sources += 1 + r.below(spare.min(3) as usize) as u64;
+    }
+    if r.one_in(2) {
+        let o = &mut job.options;
+        match r.below(4) {
+            0 => o.gmin = r.any(),
+            1 => o.boltzmann = o.boltzmann * r.round(),
+            2 => o.charge = r.any(),
+            _ => {
+                o.boltzmann = r.round();
+                o.charge = r.round();
+            }
+        }
+    }
+}
+
+/// A small budget, or room for few rows.
+fn shorten(r: &mut Random, job: &mut Job) {
+    let n = (job.nodes + job.sources) as usize;
+    if r.one_in(2) {
+        job.options.budget = 1 + r.below(20) as u64;
+    }
+    if job.transient && !r.one_in(4) {
+        job.lengths[ROWS] = (n + 1) * (1 + r.below(8)) + r.below(n + 1);
+    }
+}
+
+/// One or two faults, of every refusal from 1 to 10.
+fn damage(r: &mut Random, job: &mut Job) {
+    for _ in 0..1 + r.below(2) {
+        damage_once(r, job);
+    }
+}
+
+fn damage_once(r: &mut Random, job: &mut Job) {
+    let records = job.sheet.len() / RECORD;
+    let byte = if records > 0 { RECORD * r.below(records) } else { 0 };
+    match r.below(10) {
+        0 => match r.below(5) {
+            0 => job.nodes = 0,
+            1 => job.nodes = 49 - job.sources.min(48),
+            2 => job.nodes = u64::MAX,
+            3 => job.sources = u64::MAX - r.below(3) as u64,
+            _ => job.sources = 49,
+        },
+        1 => {
+            if r.one_in(3) {
+                let mut e = Element::new(1, 0, 0);
+                e.value[0] = 1.0;
+                job.set_elements(&vec![e; 256 + r.below(3)]);
+                job.lengths[MEMORY] = 260;
+            } else {
+                let cut = job.sheet.len().saturating_sub(1 + r.below(39));
+                job.sheet.truncate(cut);
+            }
+        }
+        2 => {
+            if r.one_in(3) {
+                job.set_pattern(&vec![(0.0, 1.0); 1024 + r.below(3)]);
+            } else {
+                let add = 1 + r.below(15);
+                job.points.extend(vec![0u8; add]);
+            }
+        }
+        3 => {
+            let o = &mut job.options;
+            match r.below(6) {
+                0 => o.itl1 = 10_001,
+                1 => o.itl3 = 10_001 + r.below(9) as u64,
+                2 => o.itl4 = u64::MAX,
+                3 => o.budget = 0,
+                4 => o.budget = 1_000_001,
+                _ => o.budget = u64::MAX,
+            }
+        }
+        4 => {
+            let which = r.below(6);
+            let l = job.lengths[which];
+            let n = (job.nodes.wrapping_add(job.sources)) as usize;
+            job.lengths[which] = if which == ROWS { l.min(n.min(48)) } else { l.saturating_sub(1 + r.below(3)) };
+        }
+        _ if records == 0 => {}
+        5 => job.sheet[byte] = r.pick(&[0, 11, 12, 99, 255]),
+        6 => {
+            let at = byte + 1 + r.below(39);
+            job.sheet[at] = job.sheet[at].wrapping_add(1 + r.below(255) as u8);
+        }
+        7 => {
+            let at = byte + r.pick(&[2, 4, 6, 8]);
+            let node = r.pick(&[job.nodes.min(65535) as u16, 48, 255, 65535]);
+            job.sheet[at..at + 2].copy_from_slice(&node.to_le_bytes());
+        }
+        8 => {
+            let source = r.pick(&[job.sources.min(65535) as u16, 47, 65535]);
+            job.sheet[byte + 10..byte + 12].copy_from_slice(&source.to_le_bytes());
+        }
+        _ => {
+            let field = byte + r.pick(&[12, 14]);
+            let x = r.pick(&[1u16, 2, 1025, 65535]);
+            job.sheet[field..field + 2].copy_from_slice(&x.to_le_bytes());
+            if r.one_in(2) {
+                job.sheet[byte] = 7;
+            }
+        }
+    }
+}

@@ -1,0 +1,202 @@
+//! Random DC and transient jobs on every side.
+
+use crate::compare::*;
+use crate::generate::{self, Sort};
+use crate::job::*;
+use crate::model::{self, WRONG};
+use crate::shrink::shrink;
+use crate::sides::{self, MUST_AGREE, OURS, PAIRS};
+use crate::tally::{Progress, Tally};
+
+const LIMITS: [f64; 7] = [1e-15, 1e-14, 1e-13, 1e-12, 1e-9, 1e-6, 1e-3];
+
+/// How the shipped code and the unmodified Rust differ: in numbers, and in floats by size.
+#[derive(Default)]
+struct Apart {
+    numbers: Tally,
+    /// Jobs by the worst relative difference of a float, held against at least 1e-6.
+    sizes: [u64; LIMITS.len() + 1],
+    /// Sound circuits: compared, other numbers, floats alone.
+    sound: [u64; 3],
+    /// The worst job of all, and the worst among small sound circuits.
+    worst: Option<Worst>,
+    worst_sound: Option<Worst>,
+}
+
+struct Worst {
+    relative: f64,
+    place: u64,
+    text: String,
+}
+
+impl Apart {
+    fn add(&mut self, job: &Job, sort: Sort, place: u64, d: &[Difference]) {
+        self.sound[0] += (sort == Sort::Sound) as u64;
+        if d.is_empty() {
+            return;
+        }
+        let mut fields: Vec<&str> = d.iter().filter(|x| !x.float).map(|x| x.field).collect();
+        fields.dedup();
+        for f in &fields {
+            self.numbers.add(f);
+        }
+        for x in d.iter().filter(|x| x.field == "verdict") {
+            self.numbers.add(&format!("verdict {} of the Rust is {} here", x.left, x.right));
+        }
+        if !fields.is_empty() {
+            self.sound[1] += (sort == Sort::Sound) as u64;
+            return;
+        }
+        let sized = d.iter().map(|x| {
+            let (l, r) = (f64::from_bits(x.left), f64::from_bits(x.right));
+            let size = (l - r).abs() / l.abs().max(r.abs()).max(1e-6);
+            (if size.is_nan() { f64::INFINITY } else { size }, x)
+        });
+        let (relative, x) = sized.fold((-1.0, &d[0]), |a, b| if b.0 > a.0 { b } else { a });
+        self.sizes[LIMITS.iter().take_while(|l| relative > **l).count()] += 1;
+        self.sound[2] += (sort == Sort::Sound) as u64;
+        let (l, r) = (f64::from_bits(x.left), f64::from_bits(x.right));
+        let text = format!("{}; relative {:.1e}, {:?} floats apart", show(x), relative, distance(l, r));
+        let sound = sort == Sort::Sound && job.nodes + job.sources <= 5;
+        let slots = [(true, &mut self.worst), (sound, &mut self.worst_sound)];
+        for (fits, slot) in slots {
+            if fits && slot.as_ref().map_or(true, |w| w.relative < relative) {
+                *slot = Some(Worst { relative, place, text: text.clone() });
+            }
+        }
+    }
+
+    fn tell(&self, seed: u64) {
+        println!("  of these, other numbers: {}", self.numbers.line());
+        let sizes: Vec<String> = LIMITS.iter().zip(&self.sizes).map(|(l, n)| format!("to {:e} {}", l, n)).collect();
+        println!(
+            "  of these, floats alone, by the worst relative difference (against at least 1e-6): {}, above {}",
+            sizes.join(", "),
+            self.sizes[LIMITS.len()]
+        );
+        let [compared, numbers, floats] = self.sound;
+        println!(
+            "  sound circuits alone: {} compared, {} with other numbers, {} with other floats",
+            compared, numbers, floats
+        );
+        if let Some(w) = &self.worst {
+            println!("  largest of all: {} (job {} of seed {})", w.text, w.place, seed);
+        }
+        if let Some(w) = &self.worst_sound {
+            println!(
+                "  largest among sound circuits of up to 5 unknowns: {} (job {} of seed {})",
+                w.text, w.place, seed
+            );
+            println!("    {}", describe(&generate::job(seed, w.place).0));
+        }
+    }
+}
+
+/// Runs `count` jobs; answers the number that differ where none may.
+pub fn run(seed: u64, count: u64, folder: &str) -> u64 {
+    let mut progress = Progress::new("jobs", count);
+    let mut outcomes = Tally::default();
+    let mut sorts = Tally::default();
+    let mut compared = [0u64; 5];
+    let mut differing = [0u64; 5];
+    let mut domain = 0u64;
+    let mut first: [Option<u64>; 5] = [None; 5];
+    let mut apart = Apart::default();
+    let mut told = vec![0u64; WRONG.len()];
+    let mut sizes = [0u64; 49];
+    for place in 0..count {
+        let (job, sort) = generate::job(seed, place);
+        let outcome = sides::run(&job);
+        outcomes.add(&outcome.answer.outcome());
+        sorts.add(&format!("{:?}", sort));
+        if outcome.answer.refusal == 0 {
+            sizes[(job.nodes + job.sources) as usize] += 1;
+        }
+        domain += outcome.domain as u64;
+        for (p, pair) in outcome.pairs.iter().enumerate() {
+            if let Some(d) = pair {
+                compared[p] += 1;
+                if !d.is_empty() {
+                    differing[p] += 1;
+                    first[p] = first[p].or(Some(place));
+                }
+            }
+        }
+        if let Some(d) = &outcome.pairs[4] {
+            apart.add(&job, sort, place, d);
+        }
+        // one in twenty also shows which wrong readings it would tell apart
+        if place % 20 == 0 {
+            for (i, (wrong, _)) in WRONG.iter().enumerate() {
+                let other = model::run(&job, &OURS, *wrong);
+                told[i] += !compare(&job, &other, &outcome.answer, ALL).is_empty() as u64;
+            }
+        }
+        let bad: u64 = differing[..MUST_AGREE].iter().sum();
+        progress.at(place + 1, &format!(", {} differ", bad));
+    }
+    progress.end();
+    println!("jobs: {} from seed {} in {:.0} s, {} in the domain of demand 2", count, seed, progress.seconds(), domain);
+    println!("  outcomes: {}", outcomes.line());
+    println!("  sorts: {}", sorts.line());
+    let low: u64 = sizes[1..=8].iter().sum();
+    let high: u64 = sizes[25..].iter().sum();
+    println!(
+        "  unknowns: {} jobs with 1 to 8, {} with 9 to 24, {} with 25 to 48",
+        low,
+        sizes[9..=24].iter().sum::<u64>(),
+        high
+    );
+    for p in 0..5 {
+        if compared[p] > 0 {
+            println!("  {}: {} compared, {} differ", PAIRS[p], compared[p], differing[p]);
+        }
+    }
+    if compared[4] > 0 {
+        apart.tell(seed);
+    }
+    let text: Vec<String> = WRONG.iter().zip(&told).map(|((w, _), n)| format!("{:?} {}", w, n)).collect();
+    println!("  of {} jobs so many would tell a wrong reading: {}", (count + 19) / 20, text.join(", "));
+    for p in 0..MUST_AGREE {
+        if let Some(place) = first[p] {
+            report(seed, place, p, folder);
+        }
+    }
+    differing[..MUST_AGREE].iter().sum()
+}
+
+/// One job of a seed: its words, its answer, and what differs.
+pub fn show_one(seed: u64, place: u64) -> u64 {
+    let (job, sort) = generate::job(seed, place);
+    let o = sides::run(&job);
+    println!("job {} of seed {} ({:?}): {}", place, seed, sort, describe(&job));
+    let a = &o.answer;
+    println!("{}, DC verdict {}, passes {}, rows {}, end {:?}", a.outcome(), a.dc_verdict, a.passes, a.rows, a.end);
+    for (p, pair) in o.pairs.iter().enumerate() {
+        for d in pair.iter().flatten().take(20) {
+            println!("  {}: {}", PAIRS[p], show(d));
+        }
+    }
+    o.pairs[..MUST_AGREE].iter().flatten().map(|d| d.len() as u64).sum()
+}
+
+/// Shows the first job of a pair that differs, and the smallest one made from it.
+fn report(seed: u64, place: u64, pair: usize, folder: &str) {
+    let (job, sort) = generate::job(seed, place);
+    println!("\nDIFFERENCE: {}; job {} of seed {} ({:?})", PAIRS[pair], place, seed, sort);
+    let differences = |j: &Job| sides::run(j).pairs[pair].clone().unwrap_or_default();
+    for d in differences(&job).iter().take(8) {
+        println!("  {}", show(d));
+    }
+    println!("  {}", describe(&job));
+    let small = shrink(&job, &mut |j| !differences(j).is_empty());
+    println!(" smallest:");
+    for d in differences(&small).iter().take(8) {
+        println!("  {}", show(d));
+    }
+    println!("  {}", describe(&small));
+    let path = format!("{}/difference-{}-{}.jobs", folder, pair, place);
+    if std::fs::write(&path, file(JOBS, &[(small.bytes(), Vec::new())])).is_ok() {
+        println!("  written to {}", path);
+    }
+}

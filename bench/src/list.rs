@@ -1,0 +1,135 @@
+//! The fixed list: jobs and the oracle's answers, for a replay without any Rust; and the replay
+//! of such a list, or of a file of jobs, on every side.
+
+use crate::compare::*;
+use crate::directed;
+use crate::door;
+use crate::generate;
+use crate::job::*;
+use crate::model::{self, Wrong};
+use crate::oracle::hooked;
+use crate::sides::{self, MUST_AGREE, OURS, PAIRS};
+use crate::tally::Tally;
+
+/// No job of the list lends more floats than these, buffer by buffer.
+const MOST_LENT: [usize; 6] = [2360, 2360, 2360, 64, 264, 2048];
+const MOST_ROW_FLOATS: usize = MOST_LENT[ROWS];
+
+/// How many jobs of an outcome the list takes.
+fn quota(job: &Job, answer: &Answer) -> (String, u64) {
+    if answer.refusal != 0 {
+        let most = if answer.refusal > 5 { 40 } else { 15 };
+        return (format!("refusal {}", answer.refusal), most);
+    }
+    let key = if job.transient {
+        format!("transient {} after {}", answer.verdict, answer.dc_verdict)
+    } else {
+        format!("DC {}", answer.verdict)
+    };
+    let most = match (job.transient, answer.verdict) {
+        (true, 0) => 220,
+        (false, 0) => 150,
+        _ => 80,
+    };
+    (key, most)
+}
+
+/// The oracle's answer: the Rust's own where it has one, else the model's; they must agree.
+fn answer(job: &Job) -> Answer {
+    let answer = model::run(job, &OURS, Wrong::Nothing);
+    if answer.refusal != 0 {
+        return answer;
+    }
+    let (rust, stopped) = hooked::run(job, &OURS);
+    let scope = Scope { end: !stopped, elimination: false };
+    assert!(compare(job, &answer, &rust, scope).is_empty(), "model and Rust differ: {}", describe(job));
+    if stopped {
+        answer
+    } else {
+        rust
+    }
+}
+
+/// Lends few rows, so that a replay needs no large buffer; the answer stays.
+fn tighten(job: &mut Job, a: &Answer) {
+    if a.refusal == 0 && job.transient && a.verdict != 25 {
+        let n = (job.nodes + job.sources) as usize;
+        let spare = job.lengths[ROWS] % 5;
+        job.lengths[ROWS] = job.lengths[ROWS].min((a.rows as usize).max(1) * (n + 1) + spare);
+    } else if a.refusal != 0 {
+        job.lengths[ROWS] = job.lengths[ROWS].min(MOST_ROW_FLOATS);
+    }
+}
+
+/// Writes the list made from a seed.
+pub fn write(seed: u64, path: &str) -> u64 {
+    let mut parts = Vec::new();
+    let mut classes = Tally::default();
+    let mut outcomes = Tally::default();
+    let mut take = |mut job: Job, classes: &mut Tally, always: bool| {
+        let first = model::run(&job, &OURS, Wrong::Nothing);
+        let (key, most) = quota(&job, &first);
+        tighten(&mut job, &first);
+        let large = job.lengths.iter().zip(MOST_LENT).any(|(l, most)| *l > most);
+        if !always && (classes.get(&key) >= most || large) {
+            return;
+        }
+        assert!(!large, "a directed job lends too much: {}", describe(&job));
+        classes.add(&key);
+        let a = answer(&job);
+        outcomes.add(&a.outcome());
+        parts.push((job.bytes(), a.bytes(&job)));
+    };
+    for d in directed::all() {
+        take(d.job, &mut classes, true);
+    }
+    for place in 0..400_000 {
+        let (job, _) = generate::job(seed, place);
+        let unknowns = job.nodes.saturating_add(job.sources);
+        // mostly small ones; a large one now and then, among the first
+        let small = unknowns <= 5 && job.sheet.len() <= 9 * RECORD
+            || job.sheet.len() <= 12 * RECORD && model::refusal(&job).0 != 0;
+        if small || (unknowns <= 12 && place % 40 == 0) || (unknowns <= 48 && place < 4_000 && place % 60 == 0) {
+            take(job, &mut classes, false);
+        }
+    }
+    let bytes = file(ANSWERS, &parts);
+    std::fs::write(path, &bytes).expect("the list cannot be written");
+    println!("{}: {} jobs, {} bytes, seed {}", path, parts.len(), bytes.len(), seed);
+    println!("  {}", outcomes.line());
+    println!("  {}", classes.line());
+    0
+}
+
+/// Runs a file of jobs on every side, and holds stored answers against the shipped code.
+pub fn replay(path: &str) -> u64 {
+    let bytes = std::fs::read(path).expect("the file cannot be read");
+    let list = match read_file(&bytes) {
+        Ok(list) => list,
+        Err(text) => {
+            eprintln!("{}: {}", path, text);
+            return 1;
+        }
+    };
+    let mut bad = 0;
+    for (place, (job, stored)) in list.iter().enumerate() {
+        let o = sides::run(job);
+        let mut found = Vec::new();
+        for p in 0..MUST_AGREE {
+            found.extend(o.pairs[p].iter().flatten().map(|d| format!("{}: {}", PAIRS[p], show(d))));
+        }
+        if let Some(stored) = stored {
+            let now = door::run(job).unwrap_or(o.answer);
+            found.extend(compare(job, &now, stored, ALL).iter().map(|d| format!("now against stored: {}", show(d))));
+        }
+        if !found.is_empty() {
+            bad += 1;
+            println!("job {}: {}", place, describe(job));
+            for line in found.iter().take(8) {
+                println!("  {}", line);
+            }
+        }
+    }
+    println!("{}: {} jobs replayed, {} differ", path, list.len(), bad);
+    bad
+}

@@ -1,0 +1,63 @@
+//! The differential bench: the shipped engine against the published Rust and a plain model.
+
+mod compare;
+mod directed;
+#[cfg_attr(not(archive), path = "no_door.rs")]
+mod door;
+mod exact;
+mod functions;
+mod generate;
+mod job;
+mod jobs;
+mod leaves;
+mod list;
+mod model;
+mod oracle;
+mod random;
+mod shrink;
+mod sides;
+mod speed;
+mod tally;
+
+/// Panics of the Rust that stand for a verdict are caught and not shown.
+fn quiet_panics() {
+    std::panic::set_hook(Box::new(|info| {
+        let stop = info.payload().downcast_ref::<recorder::Stop>().is_some();
+        let text = info.payload().downcast_ref::<String>();
+        if !stop && !text.map_or(false, |t| t.starts_with("*FATAL*")) {
+            eprintln!("{}", info);
+        }
+    }));
+}
+
+const USAGE: &str = "usage: bench run SEED COUNT FOLDER | directed | show | leaves SEED COUNT | jobs SEED COUNT FOLDER
+    | job SEED PLACE | find READING SEED COUNT | list SEED FILE | replay FILE | speed";
+
+fn main() {
+    quiet_panics();
+    let args: Vec<String> = std::env::args().skip(1).collect();
+    let number = |i: usize, or: u64| args.get(i).map_or(or, |a: &String| a.parse().expect("a number"));
+    let text = |i: usize, or: &'static str| args.get(i).map_or(or, |a: &String| a.as_str());
+    let (seed, count) = (|| number(1, 1), || number(2, 100_000));
+    let amiss = match text(0, "") {
+        "run" => {
+            let all = directed::run() + leaves::run(seed(), count()) + jobs::run(seed(), count(), text(3, "."));
+            println!("{}", if all == 0 { "0 differences" } else { "DIFFERENCES: see above" });
+            all
+        }
+        "directed" => directed::run(),
+        "show" => directed::show_all(),
+        "leaves" => leaves::run(seed(), count()),
+        "jobs" => jobs::run(seed(), count(), text(3, ".")),
+        "job" => jobs::show_one(seed(), number(2, 0)),
+        "find" => directed::find(number(1, 0) as usize, number(2, 1), number(3, 100_000)),
+        "list" => list::write(seed(), text(2, "answers.bin")),
+        "replay" => list::replay(text(1, "answers.bin")),
+        "speed" => speed::run(),
+        _ => {
+            eprintln!("{}", USAGE);
+            1
+        }
+    };
+    std::process::exit((amiss != 0) as i32);
+}

@@ -1,0 +1,711 @@
+//! Document 01 written out a second time, plainly: refusals, passes, verdicts, every buffer.
+//! It decides wherever the Rust has no answer, and is compared with the Rust wherever it has.
+//!
+//! `Wrong` holds readings that are easy to take and wrong; a model with one of them shows
+//! whether a job would tell it apart.
+
+use crate::job::*;
+use recorder::Functions;
+
+#[derive(Clone, Copy, PartialEq, Debug)]
+pub enum Wrong {
+    Nothing,
+    NanInYCounts,
+    NanPivotWins,
+    DependentFirst,
+    VcvsOrder,
+    GminOverNan,
+    RepeatAtMostZero,
+    PatternEndAtLeast,
+    ArgBelowZero,
+    ConductanceMustBeFinite,
+    CurrentMustBeFinite,
+    ErrorKept,
+    CapacitorsFromDc,
+    TimeBySolvedStep,
+    InvertedOnce,
+    LastOfEqualPivots,
+    TwoThermalBelow,
+    LastUnknownKept,
+    SignAfterSecondNode,
+    YFromLastStep,
+    MemoryAnew,
+    StepComparedFirst,
+    NoStopAtZeroPivot,
+    MaxBeforeDoubling,
+    RowAtZero,
+    SumFromRight,
+}
+
+pub const WRONG: &[(Wrong, &str)] = &[
+    (Wrong::NanInYCounts, "a NaN in y counts as a difference"),
+    (Wrong::NanPivotWins, "a NaN is taken as the largest pivot"),
+    (Wrong::DependentFirst, "dependent sources stamped before independent ones"),
+    (Wrong::VcvsOrder, "a Vcvs's output entries written before its controls"),
+    (Wrong::GminOverNan, "GMIN replaces a NaN conductance"),
+    (Wrong::RepeatAtMostZero, "repeat <= 0 ends a pattern"),
+    (Wrong::PatternEndAtLeast, "a pattern ends at t >= its end"),
+    (Wrong::ArgBelowZero, "arg < 0 for arg <= 0 in the limiting"),
+    (Wrong::ConductanceMustBeFinite, "22 also for a conductance that is not finite"),
+    (Wrong::CurrentMustBeFinite, "22 also for a companion current that is not finite"),
+    (Wrong::ErrorKept, "a convergence error stands over a later no"),
+    (Wrong::CapacitorsFromDc, "capacitors start from the DC vector"),
+    (Wrong::TimeBySolvedStep, "time moves by the step solved, not the doubled one"),
+    (Wrong::InvertedOnce, "a companion conductance is stamped without being inverted twice"),
+    (Wrong::LastOfEqualPivots, "the last of equal pivots is taken"),
+    (Wrong::TwoThermalBelow, "a step of exactly two thermal voltages is limited"),
+    (Wrong::LastUnknownKept, "the last unknown stays as it is when not finite"),
+    (Wrong::SignAfterSecondNode, "equal nodes of a V leave 1.0"),
+    (Wrong::YFromLastStep, "a step's first pass is compared with the last solved vector"),
+    (Wrong::MemoryAnew, "diode memory starts anew in the transient"),
+    (Wrong::StepComparedFirst, "the step is compared with the least before it is cut"),
+    (Wrong::NoStopAtZeroPivot, "a zero pivot skips its column only"),
+    (Wrong::MaxBeforeDoubling, "the step is capped before it is doubled"),
+    (Wrong::RowAtZero, "a later time of exactly 0 gets a row"),
+    (Wrong::SumFromRight, "back substitution sums in falling column order"),
+];
+
+pub const MOST_UNKNOWNS: u128 = 48;
+pub const MOST_RECORDS: usize = 256;
+pub const MOST_POINTS: usize = 1024;
+pub const MOST_PASSES: u64 = 10_000;
+pub const MOST_BUDGET: u64 = 1_000_000;
+
+/// Which bytes a kind uses, from 2 on; the others must be zero.
+fn used(kind: u8) -> Vec<std::ops::Range<usize>> {
+    match kind {
+        1 | 2 | 8 => vec![2..6, 16..24],
+        3 => vec![2..6, 10..12, 16..24],
+        4 => vec![2..6, 16..32],
+        5 => vec![2..6, 16..40],
+        6 => vec![2..6, 10..12, 16..40],
+        7 => vec![2..6, 10..16, 16..32],
+        9 => vec![2..12, 16..24],
+        10 => vec![2..10, 16..24],
+        _ => vec![],
+    }
+}
+
+/// The lowest fault of one record, 0 if it has none.
+fn fault(r: &[u8], nodes: u64, sources: u64, points: usize) -> u64 {
+    let e = Element::read(r);
+    if e.kind < 1 || e.kind > 10 {
+        return 6;
+    }
+    let ranges = used(e.kind);
+    for (i, byte) in r.iter().enumerate().skip(1) {
+        if *byte != 0 && !ranges.iter().any(|u| u.contains(&i)) {
+            return 7;
+        }
+    }
+    let mut named = vec![e.a, e.b];
+    if e.has_controls() {
+        named.extend_from_slice(&[e.cp, e.cn]);
+    }
+    if named.iter().any(|n| *n as u64 >= nodes) {
+        return 8;
+    }
+    if e.has_source() && e.source as u64 >= sources {
+        return 9;
+    }
+    if e.kind == 7 && e.first as usize + e.count as usize > points {
+        return 10;
+    }
+    0
+}
+
+/// The refusal and its place; 0 if the job runs.
+pub fn refusal(job: &Job) -> (u64, u64) {
+    let unknowns = job.nodes as u128 + job.sources as u128;
+    if job.nodes == 0 || unknowns > MOST_UNKNOWNS {
+        return (1, 0);
+    }
+    let records = job.sheet.len() / RECORD;
+    if job.sheet.len() % RECORD != 0 || records > MOST_RECORDS {
+        return (2, 0);
+    }
+    let points = job.points.len() / POINT;
+    if job.points.len() % POINT != 0 || points > MOST_POINTS {
+        return (3, 0);
+    }
+    let o = &job.options;
+    if o.itl1 > MOST_PASSES || o.itl3 > MOST_PASSES || o.itl4 > MOST_PASSES || o.budget == 0 || o.budget > MOST_BUDGET {
+        return (4, 0);
+    }
+    let n = unknowns as usize;
+    let rows = if job.transient { n + 1 } else { 0 };
+    let needed = [n * (n + 1), n * (n + 1), n * (n + 1), n, records, rows];
+    if needed.iter().zip(job.lengths.iter()).any(|(need, given)| given < need) {
+        return (5, 0);
+    }
+    for (place, r) in job.sheet.chunks_exact(RECORD).enumerate() {
+        let number = fault(r, job.nodes, job.sources, points);
+        if number != 0 {
+            return (number, place as u64);
+        }
+    }
+    (0, 0)
+}
+
+/// Level of a piecewise-linear pattern at a time.
+pub fn pattern(points: &[(f64, f64)], t_delay: f64, repeat: f64, t: f64, wrong: Wrong) -> f64 {
+    let last = match points.last() {
+        None => return 0.0,
+        Some(p) => *p,
+    };
+    let once = if wrong == Wrong::RepeatAtMostZero { repeat <= 0.0 } else { repeat < 0.0 };
+    let end = t_delay + last.0;
+    let over = if wrong == Wrong::PatternEndAtLeast { t >= end } else { t > end };
+    if once && over {
+        return last.1;
+    }
+    let cycle = (t - t_delay) % last.0;
+    if cycle < 0.0 {
+        return 0.0;
+    }
+    // the point at or after, and the one before it; a side without a point is (0, 0)
+    let at = points.iter().position(|p| !(cycle > p.0));
+    let (t2, v2) = at.map_or((0.0, 0.0), |i| points[i]);
+    let before = at.unwrap_or(points.len());
+    let (t1, v1) = if before == 0 { (0.0, 0.0) } else { points[before - 1] };
+    let slope = (v2 - v1) / (t2 - t1);
+    let slope = if slope.is_nan() { 0.0 } else { slope };
+    slope * (cycle - t1) + v1
+}
+
+/// A capacitor's conductance and current.
+pub fn capacitor(value: f64, v: f64, step: f64) -> (f64, f64) {
+    let g = value / step;
+    (g, g * v)
+}
+
+/// A diode's conductance, current and limited voltage; None where its current is not finite.
+pub fn diode(
+    i_sat: f64,
+    tdegc: f64,
+    v: f64,
+    memory: f64,
+    o: &Options,
+    f: &Functions,
+    wrong: Wrong,
+) -> Option<(f64, f64, f64)> {
+    let vt = o.boltzmann * (363.0 + tdegc) / o.charge;
+    let root2 = f64::from_bits(0x3FF6A09E667F3BCD);
+    let critical = vt * (f.ln)(vt / (root2 * i_sat));
+    let delta = v - memory;
+    let within = if wrong == Wrong::TwoThermalBelow { delta.abs() < 2.0 * vt } else { delta.abs() <= 2.0 * vt };
+    let limited = if v < critical || within {
+        v
+    } else if memory <= 0.0 {
+        vt * (f.ln)(v / vt)
+    } else {
+        let arg = 1.0 + delta / vt;
+        let out = if wrong == Wrong::ArgBelowZero { arg < 0.0 } else { arg <= 0.0 };
+        if out {
+            critical
+        } else {
+            memory + vt * (f.ln)(arg)
+        }
+    };
+    let power = (f.exp)(limited / vt);
+    let current = i_sat * (power - 1.0);
+    if !current.is_finite() {
+        return None;
+    }
+    let mut g = (i_sat / vt) * power;
+    if g < o.gmin || (wrong == Wrong::GminOverNan && g.is_nan()) {
+        g = o.gmin;
+    }
+    let i = current - g * limited;
+    if wrong == Wrong::ConductanceMustBeFinite && !g.is_finite() {
+        return None;
+    }
+    if wrong == Wrong::CurrentMustBeFinite && !i.is_finite() {
+        return None;
+    }
+    Some((g, i, limited))
+}
+
+/// A sine source's value; None where the sine is refused.
+pub fn sine(vo: f64, va: f64, freq: f64, t: f64, f: &Functions) -> Option<f64> {
+    let argument = ((2.0 * std::f64::consts::PI) * freq) * t;
+    (f.sin)(argument).map(|s| vo + va * s)
+}
+
+/// A square system with its right side, row after row.
+#[derive(Clone)]
+pub struct Matrix {
+    pub n: usize,
+    pub m: Vec<f64>,
+}
+
+impl Matrix {
+    pub fn zeros(n: usize) -> Matrix {
+        Matrix { n, m: vec![0.0; n * (n + 1)] }
+    }
+
+    fn get(&self, r: usize, c: usize) -> f64 {
+        self.m[r * (self.n + 1) + c]
+    }
+
+    /// Entries for ground are skipped.
+    fn add(&mut self, r: usize, c: usize, x: f64) {
+        if r != 0 && c != 0 {
+            self.m[r * (self.n + 1) + c] += x;
+        }
+    }
+
+    fn assign(&mut self, r: usize, c: usize, x: f64) {
+        if r != 0 && c != 0 {
+            self.m[r * (self.n + 1) + c] = x;
+        }
+    }
+
+    fn current(&mut self, first: usize, second: usize, i: f64) {
+        let right = self.n;
+        self.add(first, right, -i);
+        self.add(second, right, i);
+    }
+
+    fn resistor(&mut self, a: usize, b: usize, value: f64) {
+        self.conductance(a, b, 1.0 / value);
+    }
+
+    fn conductance(&mut self, a: usize, b: usize, g: f64) {
+        self.add(a, a, g);
+        self.add(a, b, -g);
+        self.add(b, b, g);
+        self.add(b, a, -g);
+    }
+
+    fn companion(&mut self, a: usize, b: usize, g: f64, wrong: Wrong) {
+        if wrong == Wrong::InvertedOnce {
+            self.conductance(a, b, g);
+        } else {
+            self.resistor(a, b, 1.0 / g);
+        }
+    }
+
+    /// A source's row is never 0: it is node count plus source number, and there is always a node.
+    fn voltage(&mut self, row: usize, a: usize, b: usize, v: f64, wrong: Wrong) {
+        let right = self.n;
+        self.assign(row, right, v);
+        let mut ends = [(a, 1.0), (b, -1.0)];
+        if wrong == Wrong::SignAfterSecondNode {
+            ends.reverse();
+        }
+        for (node, one) in ends.iter() {
+            self.assign(row, *node, *one);
+            self.assign(*node, row, *one);
+        }
+    }
+
+    fn vcvs(&mut self, row: usize, e: &Element, wrong: Wrong) {
+        let (a, b, cp, cn) = (e.a as usize, e.b as usize, e.cp as usize, e.cn as usize);
+        let k = e.value[0];
+        self.add(a, row, 1.0);
+        self.add(b, row, -1.0);
+        let mut writes = [(cp, k), (cn, -k), (a, -1.0), (b, 1.0)];
+        if wrong == Wrong::VcvsOrder {
+            writes.rotate_left(2);
+        }
+        for (node, x) in writes.iter() {
+            self.add(row, *node, *x);
+        }
+    }
+
+    fn vccs(&mut self, e: &Element) {
+        let (a, b, cp, cn) = (e.a as usize, e.b as usize, e.cp as usize, e.cn as usize);
+        let k = e.value[0];
+        self.add(a, cp, k);
+        self.add(a, cn, -k);
+        self.add(b, cp, -k);
+        self.add(b, cn, k);
+    }
+}
+
+/// Row of the largest absolute entry at or below the diagonal, the earliest on a tie.
+fn pivot(s: &Matrix, c: usize, wrong: Wrong) -> usize {
+    let mut row = c;
+    let mut largest = 0.0;
+    for r in c..s.n {
+        let size = s.get(r, c).abs();
+        let more = if wrong == Wrong::LastOfEqualPivots { size >= largest && size > 0.0 } else { size > largest };
+        if more || (wrong == Wrong::NanPivotWins && size.is_nan()) {
+            row = r;
+            largest = size;
+        }
+    }
+    row
+}
+
+/// The solved vector; the matrix is eliminated in place.
+pub fn solve(s: &mut Matrix, wrong: Wrong) -> Vec<f64> {
+    let n = s.n;
+    let w = n + 1;
+    for c in 1..n.saturating_sub(1) {
+        let p = pivot(s, c, wrong);
+        if s.get(p, c) == 0.0 {
+            if wrong == Wrong::NoStopAtZeroPivot {
+                continue;
+            }
+            break;
+        }
+        for k in 0..w {
+            s.m.swap(p * w + k, c * w + k);
+        }
+        for r in c + 1..n {
+            if s.get(r, c) == 0.0 {
+                continue;
+            }
+            let ratio = s.get(r, c) / s.get(c, c);
+            for k in c..w {
+                s.m[r * w + k] = s.get(r, k) - s.get(c, k) * ratio;
+            }
+        }
+    }
+    let mut x = vec![0.0; n];
+    let last = s.get(n - 1, n) / s.get(n - 1, n - 1);
+    x[n - 1] = if last.is_finite() || wrong == Wrong::LastUnknownKept { last } else { 0.0 };
+    for r in (1..n.saturating_sub(1)).rev() {
+        let mut sum = 0.0;
+        if wrong == Wrong::SumFromRight {
+            for c in (r + 1..n).rev() {
+                sum += s.get(r, c) * x[c];
+            }
+        } else {
+            for c in r + 1..n {
+                sum += s.get(r, c) * x[c];
+            }
+        }
+        x[r] = (s.get(r, n) - sum) / s.get(r, r);
+    }
+    x
+}
+
+#[derive(Clone, Copy, PartialEq, Debug)]
+pub enum State {
+    Yes,
+    No,
+    Error,
+}
+
+/// Document 01, "Convergence".
+pub fn convergence(x: &[f64], y: &[f64], nodes: u64, o: &Options, wrong: Wrong) -> State {
+    let mut state = State::Yes;
+    for i in 0..x.len() {
+        if !x[i].is_finite() {
+            state = State::Error;
+            continue;
+        }
+        let floor = if (i as u64) < nodes { o.vntol } else { o.abstol };
+        let limit = x[i].abs() * o.reltol + floor;
+        let difference = (x[i] - y[i]).abs();
+        let exceeds = difference > limit || (wrong == Wrong::NanInYCounts && y[i].is_nan());
+        if exceeds && !(wrong == Wrong::ErrorKept && state == State::Error) {
+            state = State::No;
+        }
+    }
+    state
+}
+
+/// What storage elements look back at: the last accepted vector and the step.
+struct Storage<'a> {
+    accepted: &'a [f64],
+    step: f64,
+}
+
+struct Run<'a> {
+    o: Options,
+    f: &'a Functions,
+    wrong: Wrong,
+    nodes: usize,
+    n: usize,
+    elements: Vec<Element>,
+    points: Vec<(f64, f64)>,
+    units: u64,
+    base: Matrix,
+    system: Matrix,
+    vector: Vec<f64>,
+    memory: Vec<f64>,
+    passes: u64,
+    rows: Vec<f64>,
+    row_count: u64,
+    room: u64,
+}
+
+impl<'a> Run<'a> {
+    fn row(&self, e: &Element) -> usize {
+        self.nodes + e.source as usize
+    }
+
+    fn make_base(&mut self) {
+        for e in self.elements.clone() {
+            let (a, b) = (e.a as usize, e.b as usize);
+            match e.kind {
+                1 => self.base.resistor(a, b, e.value[0]),
+                2 => self.base.current(a, b, e.value[0]),
+                3 => {
+                    let row = self.row(&e);
+                    self.base.voltage(row, a, b, e.value[0], self.wrong)
+                }
+                _ => {}
+            }
+        }
+    }
+
+    fn independent(&self, m: &mut Matrix, t: f64) -> Result<(), u64> {
+        for e in &self.elements {
+            let (a, b) = (e.a as usize, e.b as usize);
+            let [p, q, r] = e.value;
+            match e.kind {
+                5 => m.current(a, b, sine(p, q, r, t, self.f).ok_or(26u64)?),
+                6 => m.voltage(self.row(e), a, b, sine(p, q, r, t, self.f).ok_or(26u64)?, self.wrong),
+                7 => {
+                    let part = &self.points[e.first as usize..e.first as usize + e.count as usize];
+                    m.voltage(self.row(e), a, b, pattern(part, p, q, t, self.wrong), self.wrong)
+                }
+                _ => {}
+            }
+        }
+        Ok(())
+    }
+
+    fn dependent(&self, m: &mut Matrix) {
+        for e in &self.elements {
+            match e.kind {
+                9 => m.vcvs(self.row(e), e, self.wrong),
+                10 => m.vccs(e),
+                _ => {}
+            }
+        }
+    }
+
+    fn storage(&self, m: &mut Matrix, s: &Storage) {
+        for e in self.elements.iter().filter(|e| e.kind == 8) {
+            let (a, b) = (e.a as usize, e.b as usize);
+            let (g, i) = capacitor(e.value[0], s.accepted[a] - s.accepted[b], s.step);
+            m.current(b, a, i);
+            m.companion(a, b, g, self.wrong);
+        }
+    }
+
+    fn diodes(&mut self, m: &mut Matrix) -> Result<(), u64> {
+        for k in 0..self.elements.len() {
+            let e = self.elements[k];
+            if e.kind != 4 {
+                continue;
+            }
+            let (a, b) = (e.a as usize, e.b as usize);
+            let v = self.vector[a] - self.vector[b];
+            let (g, i, limited) =
+                diode(e.value[0], e.value[1], v, self.memory[k], &self.o, self.f, self.wrong).ok_or(22u64)?;
+            self.memory[k] = limited;
+            m.current(a, b, i);
+            m.companion(a, b, g, self.wrong);
+        }
+        Ok(())
+    }
+
+    /// One pass: a unit of the budget, the stamps, the solve.
+    fn pass(&mut self, t: f64, storage: Option<Storage>) -> Result<(), u64> {
+        if self.units == 0 {
+            return Err(24);
+        }
+        self.units -= 1;
+        let mut m = self.base.clone();
+        if self.wrong == Wrong::DependentFirst {
+            self.dependent(&mut m);
+            self.independent(&mut m, t)?;
+        } else {
+            self.independent(&mut m, t)?;
+            self.dependent(&mut m);
+        }
+        if let Some(s) = storage {
+            self.storage(&mut m, &s);
+        }
+        self.diodes(&mut m)?;
+        self.system = m.clone();
+        self.vector = solve(&mut m, self.wrong);
+        self.passes += 1;
+        Ok(())
+    }
+
+    fn state(&self, y: &[f64]) -> State {
+        convergence(&self.vector, y, self.nodes as u64, &self.o, self.wrong)
+    }
+
+    /// The DC verdict; Err where the run cannot go on after it.
+    fn dc(&mut self) -> Result<u64, u64> {
+        let mut y = vec![0.0; self.n];
+        for _ in 0..self.o.itl1 + 1 {
+            self.pass(0.0, None)?;
+            match self.state(&y) {
+                State::Yes => return Ok(0),
+                State::Error => return Ok(21),
+                State::No => y = self.vector.clone(),
+            }
+        }
+        Ok(20)
+    }
+
+    fn write_row(&mut self, t: f64) -> Result<(), u64> {
+        if self.row_count == self.room {
+            return Err(25);
+        }
+        self.rows.push(t);
+        self.rows.extend_from_slice(&self.vector);
+        self.row_count += 1;
+        Ok(())
+    }
+
+    /// Passes of one step until it is accepted, or cut too far, or in error.
+    /// Answers whether the step was cut and the count of its last passes.
+    fn step(&mut self, now: f64, step: &mut f64, accepted: &[f64]) -> Result<Step, u64> {
+        let mut y = if self.wrong == Wrong::YFromLastStep { self.vector.clone() } else { vec![0.0; self.n] };
+        let mut count = 0;
+        let mut cut = false;
+        let least = self.o.tstep * self.o.rmin;
+        loop {
+            self.pass(now + *step, Some(Storage { accepted, step: *step }))?;
+            count += 1;
+            match self.state(&y) {
+                State::Yes => return Ok(Step::Accepted { cut, count }),
+                State::Error => return Ok(Step::Failed(21)),
+                State::No => {}
+            }
+            if count >= self.o.itl4 {
+                let before = *step;
+                *step *= self.o.ft;
+                let compared = if self.wrong == Wrong::StepComparedFirst { before } else { *step };
+                if compared < least {
+                    return Ok(Step::Failed(23));
+                }
+                cut = true;
+                count = 0;
+            }
+            y = self.vector.clone();
+        }
+    }
+
+    /// The verdict, with the time left in `now`.
+    fn transient(&mut self, now: &mut f64) -> Result<u64, u64> {
+        if self.wrong == Wrong::MemoryAnew {
+            for k in 0..self.elements.len() {
+                if self.elements[k].kind == 4 {
+                    self.memory[k] = 0.0;
+                }
+            }
+        }
+        let mut step = self.o.tstep * self.o.fs;
+        let mut accepted = vec![0.0; self.n];
+        if self.wrong == Wrong::CapacitorsFromDc {
+            accepted = self.vector.clone();
+        }
+        self.write_row(0.0)?;
+        loop {
+            let solved_step;
+            match self.step(*now, &mut step, &accepted)? {
+                Step::Failed(verdict) => {
+                    *now += step;
+                    if *now > self.o.tstop {
+                        *now = self.o.tstop;
+                    }
+                    return Ok(verdict);
+                }
+                Step::Accepted { cut, count } => {
+                    solved_step = step;
+                    accepted = self.vector.clone();
+                    if !cut && count < self.o.itl3 {
+                        let most = self.o.tstep * self.o.rmax;
+                        if self.wrong == Wrong::MaxBeforeDoubling {
+                            step = if step > most { most } else { step } * 2.0;
+                        } else {
+                            step *= 2.0;
+                            if step > most {
+                                step = most;
+                            }
+                        }
+                    }
+                }
+            }
+            *now += if self.wrong == Wrong::TimeBySolvedStep { solved_step } else { step };
+            let last = *now > self.o.tstop;
+            if last {
+                *now = self.o.tstop;
+            }
+            if *now >= self.o.tstart && (*now != 0.0 || self.wrong == Wrong::RowAtZero) {
+                self.write_row(*now)?;
+            }
+            if last {
+                return Ok(0);
+            }
+        }
+    }
+}
+
+enum Step {
+    Accepted { cut: bool, count: u64 },
+    Failed(u64),
+}
+
+fn either(r: Result<u64, u64>) -> u64 {
+    match r {
+        Ok(v) => v,
+        Err(v) => v,
+    }
+}
+
+/// The whole call.
+pub fn run(job: &Job, f: &Functions, wrong: Wrong) -> Answer {
+    let (number, place) = refusal(job);
+    let mut answer = Answer::refused(job, number, place);
+    if number != 0 {
+        return answer;
+    }
+    let n = (job.nodes + job.sources) as usize;
+    let elements = job.elements();
+    let mut memory = answer.buffers[MEMORY].clone();
+    for (k, e) in elements.iter().enumerate() {
+        if e.kind == 4 {
+            memory[k] = 0.0;
+        }
+    }
+    let mut run = Run {
+        o: job.options,
+        f,
+        wrong,
+        nodes: job.nodes as usize,
+        n,
+        elements,
+        points: job.pattern(),
+        units: job.options.budget,
+        base: Matrix::zeros(n),
+        system: Matrix::zeros(n),
+        vector: vec![0.0; n],
+        memory,
+        passes: 0,
+        rows: Vec::new(),
+        row_count: 0,
+        room: (job.lengths[ROWS] / (n + 1)) as u64,
+    };
+    run.make_base();
+    let dc = run.dc();
+    answer.verdict = either(dc);
+    if job.transient {
+        answer.dc_verdict = answer.verdict;
+        if dc.is_ok() {
+            let mut now = 0.0;
+            answer.verdict = either(run.transient(&mut now));
+            answer.end = now;
+        }
+    }
+    answer.passes = run.passes;
+    answer.rows = run.row_count;
+    let parts =
+        [(BASE, &run.base.m), (SYSTEM, &run.system.m), (VECTOR, &run.vector), (MEMORY, &run.memory), (ROWS, &run.rows)];
+    for (buffer, part) in parts.iter() {
+        answer.buffers[*buffer][..part.len()].copy_from_slice(part);
+    }
+    answer
+}

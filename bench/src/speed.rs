@@ -1,0 +1,146 @@
+//! Times the shipped code against the unmodified Rust: the same circuits, the same loop, one run,
+//! in processor time.
+//! The Rust's prints are gone and its rows go to memory, which favours it.
+
+use crate::directed::Build;
+use crate::door;
+use crate::job::*;
+use crate::oracle::quiet;
+use recorder::Record;
+
+const SIZES: [usize; 4] = [2, 8, 24, 48];
+const STEPS: usize = 1000;
+const ROUNDS: usize = 9;
+const LEAST: f64 = 0.03;
+
+/// A ladder of N unknowns: driven at its first node, a capacitor at each node, and with
+/// diodes one at every second node.
+fn ladder(n: usize, transient: bool, diodes: bool) -> Job {
+    let sources = if n > 2 { 1 } else { 0 };
+    let nodes = n - sources;
+    let mut b = if transient {
+        Build::transient(nodes as u64, sources as u64, 0.0)
+    } else {
+        Build::dc(nodes as u64, sources as u64)
+    };
+    b = if sources == 1 { b.vsin(1, 0, 2.0, 3.0, 50.0, 0) } else { b.isin(0, 1, 0.002, 0.003, 50.0).r(1, 0, 1000.0) };
+    for k in 1..nodes {
+        if k + 1 < nodes {
+            b = b.r(k, k + 1, 1000.0 + k as f64);
+        }
+        b = b.r(k, 0, 10_000.0 + k as f64).c(k, 0, 1e-7);
+        if diodes && k % 2 == 1 {
+            b = b.d(k, 0, 1e-12, 27.0);
+        }
+    }
+    let mut job = b
+        .set(|o| {
+            o.abstol = 1e-9;
+            o.tstep = 1e-5;
+            o.itl1 = 200;
+            o.itl4 = 100;
+            o.rmin = 1e-6;
+            o.budget = 1_000_000;
+        })
+        .job();
+    job.options.tstop = job.options.tstep * (STEPS as f64 - 0.5);
+    job.fit(STEPS + 2);
+    job
+}
+
+extern "C" {
+    fn clock_gettime(clock: i32, time: *mut [i64; 2]) -> i32;
+}
+
+const CPU_TIME_OF_THE_THREAD: i32 = 3;
+
+/// Seconds of processor time that this thread has had; other programs do not count.
+fn now() -> f64 {
+    let mut time = [0i64; 2];
+    unsafe { clock_gettime(CPU_TIME_OF_THE_THREAD, &mut time) };
+    time[0] as f64 + time[1] as f64 * 1e-9
+}
+
+/// Seconds of one run: the shortest of several rounds, each long enough to be read off a clock.
+struct Stopwatch {
+    repeats: usize,
+    best: f64,
+    /// Kept so that no run can be left out.
+    passes: u64,
+}
+
+impl Stopwatch {
+    fn new(run: &mut dyn FnMut() -> u64) -> Stopwatch {
+        let begun = now();
+        run();
+        let once = now() - begun;
+        Stopwatch { repeats: ((LEAST / once.max(1e-9)) as usize).clamp(1, 100_000), best: f64::INFINITY, passes: 0 }
+    }
+
+    fn round(&mut self, run: &mut dyn FnMut() -> u64) {
+        let begun = now();
+        for _ in 0..self.repeats {
+            self.passes += run();
+        }
+        self.best = self.best.min((now() - begun) / self.repeats as f64);
+    }
+}
+
+fn shipped(job: &Job, buffers: &mut [Vec<f64>; 6]) -> (u64, u64) {
+    let a = door::call(job, buffers);
+    (a.passes, a.verdict + a.refusal)
+}
+
+pub fn run() -> u64 {
+    if !door::LINKED {
+        println!("no archive linked: the plain model is timed in its place");
+    }
+    println!(
+        "{:>10} {:>3} {:>8} {:>14} {:>14} {:>14} {:>7}",
+        "analysis", "N", "diodes", "passes", "shipped, us", "Rust, us", "ratio"
+    );
+    let mut bad = 0;
+    for transient in [false, true] {
+        for diodes in [false, true] {
+            for n in SIZES {
+                let job = ladder(n, transient, diodes);
+                let circuit = quiet::circuit(&job);
+                let configuration = quiet::configuration(&job.options);
+                let mut buffers = job.lent();
+                let (passes, verdict) = shipped(&job, &mut buffers);
+                let mut ours = || shipped(&job, &mut buffers).0;
+                let mut theirs = || {
+                    recorder::begin(Record::new());
+                    quiet::run(transient, &circuit, &configuration)
+                };
+                let rust_passes = theirs();
+                let (mut a, mut b) = (Stopwatch::new(&mut ours), Stopwatch::new(&mut theirs));
+                for _ in 0..ROUNDS {
+                    a.round(&mut ours);
+                    b.round(&mut theirs);
+                }
+                recorder::end();
+                let both =
+                    if passes == rust_passes { format!("{}", passes) } else { format!("{}/{}", passes, rust_passes) };
+                let kind = if transient { "transient" } else { "DC" };
+                let (x, y) = (a.best * 1e6, b.best * 1e6);
+                println!(
+                    "{:>10} {:>3} {:>8} {:>14} {:>14.2} {:>14.2} {:>7.2}",
+                    kind,
+                    n,
+                    if diodes { "yes" } else { "no" },
+                    both,
+                    x,
+                    y,
+                    y / x
+                );
+                if verdict != 0 || a.passes == 0 || b.passes == 0 {
+                    println!("  not settled: verdict or refusal {}", verdict);
+                    bad += 1;
+                }
+            }
+        }
+    }
+    println!("ratio: the Rust's time over the shipped code's; above 1 the shipped code is faster");
+    bad
+}
