@@ -2,7 +2,7 @@
  *
  * Every function is total: it refuses by a number and changes nothing that was lent to it, or it runs and says how it ended.
  * Numbers are listed in docs/NUMBERS.md. A slice is a pointer and then its length in elements; a length of 0 wants a pointer
- * that is not null. On a refusal every other field of the answer is 0. N is nodes (ground included) plus sources.
+ * that is not null. On a refusal every other field of the answer is 0, but for the place of 6 to 10. N is nodes (ground included) plus sources.
  */
 #ifndef SAVRUNTE_H
 #define SAVRUNTE_H
