@@ -1,5 +1,9 @@
 // The diode: its constants, the limiting of its voltage, and its companion model.
 ghost use mathlib.Core.Path.{_≡_};
+ghost use mathlib.Core.Bool.{false};
+ghost use lib.Ieee.{le};
+ghost use Rattle.num.specs.Floats.{absoluteOf};
+ghost use Rattle.models.specs.Signs.{_⊖_, _⊗_, two};
 ghost use Rattle.models.specs.Diode.{thermal, critical, limited, floored, modelAt, linearized};
 use options::Options;
 
@@ -16,8 +20,7 @@ pub fn linearize(o: Options, i_sat: f64, tdegc: f64, v_hat: f64, v_d_prev: f64) 
     ensures { λ r. ⌜ r ≡ linearized o «i_sat» tdegc «v_hat» «v_d_prev» ⌝ }
 {
     let v_thermal = thermal_voltage(o, tdegc);
-    let v_crit = critical_voltage(v_thermal, i_sat);
-    let v_d_i = limit(v_thermal, v_crit, v_hat, v_d_prev);
+    let v_d_i = limit(v_thermal, i_sat, v_hat, v_d_prev);
     model_at(o.gmin, i_sat, v_thermal, v_d_i)
 }
 
@@ -35,21 +38,30 @@ fn critical_voltage(v_thermal: f64, i_sat: f64) -> f64
     v_thermal * functions::ln(v_thermal / (ROOT_TWO * i_sat))
 }
 
-// The voltage v_hat, limited.
-fn limit(v_thermal: f64, v_crit: f64, v_hat: f64, v_d_prev: f64) -> f64
-    ensures { λ r. ⌜ r ≡ limited «v_thermal» «v_crit» «v_hat» «v_d_prev» ⌝ }
+// The voltage v_hat, limited. A step within two thermal voltages passes whatever the critical voltage is, so that its logarithm is worked out for the other steps alone.
+fn limit(v_thermal: f64, i_sat: f64, v_hat: f64, v_d_prev: f64) -> f64
+    ensures { λ r. ⌜ r ≡ limited «v_thermal» (critical «v_thermal» «i_sat») «v_hat» «v_d_prev» ⌝ }
 {
     let v_delta = v_hat - v_d_prev;
-    if v_hat < v_crit {
+    if num::absolute(v_delta) <= 2.0 * v_thermal {
         return v_hat;
     }
-    if num::absolute(v_delta) <= 2.0 * v_thermal {
+    let v_crit = critical_voltage(v_thermal, i_sat);
+    limit_step(v_thermal, v_crit, v_hat, v_d_prev)
+}
+
+// The voltage v_hat after a step beyond two thermal voltages, limited.
+fn limit_step(v_thermal: f64, v_crit: f64, v_hat: f64, v_d_prev: f64) -> f64
+    requires { ⌜ le (absoluteOf («v_hat» ⊖ «v_d_prev»)) (two ⊗ «v_thermal») ≡ false ⌝ }
+    ensures { λ r. ⌜ r ≡ limited «v_thermal» «v_crit» «v_hat» «v_d_prev» ⌝ }
+{
+    if v_hat < v_crit {
         return v_hat;
     }
     if v_d_prev <= 0.0 {
         return v_thermal * functions::ln(v_hat / v_thermal);
     }
-    let arg = 1.0 + v_delta / v_thermal;
+    let arg = 1.0 + (v_hat - v_d_prev) / v_thermal;
     if arg <= 0.0 {
         return v_crit;
     }

@@ -1,4 +1,4 @@
--- Past the end of a list every byte reads as 0, and so does every number. Clients cite past16, past32, past64.
+-- Past the end of a list every byte reads as 0, and so does every number. Clients cite past16, last16, past32, past64.
 use mathlib.Core.Path.{_≡_}
 use mathlib.Core.List.{List}
 use Prim.Native.Nat.{ℕ, _+_, _≤_}
@@ -12,6 +12,10 @@ module _ (s : List ℕ) (at : ℕ) where
 
   pub past16 : length s ≤ at → le16 s at ≡ 0
   past16 h = omega (arith, List·getD-eq-default s 0 {n = at} h, byte 1 h)
+
+-- the last byte by itself
+pub last16 : (s : List ℕ) (at : ℕ) → length s ≤ at + 1 → le16 s at ≡ getD s at 0
+last16 s at h = omega (arith, List·getD-eq-default s 0 {n = at + 1} h)
 
 pub past32 : (s : List ℕ) (at : ℕ) → length s ≤ at → le32 s at ≡ 0
 unfolding le32

@@ -1,8 +1,8 @@
 // Numbers at the bottom of everything: little-endian reads out of bytes, a float of any 64 bits, the absolute value and the test for finite.
 // Every function here is total. A byte past the end of a slice reads as 0.
 ghost use mathlib.Core.Path.{_≡_};
-ghost use Prim.Native.Nat.{_<_};
-ghost use lib.ListN.{getD};
+ghost use Prim.Native.Nat.{_+_, _*_, _<_, _≤_};
+ghost use lib.ListN.{length, getD};
 ghost use lib.Ieee.{binary64, ofBits};
 ghost use lib.Ieee.Scale.{finite as finiteOf};
 ghost use Rattle.num.specs.Le.{le16, le32, le64, floatAt};
@@ -15,9 +15,10 @@ pub fn u16_at(s: &[u8], at: usize) -> u16
     if s.len() <= at {
         return 0;
     }
-    let lo = wide(s[at]);
-    let hi = wide(byte_at(s, at + 1));
-    lo + 256 * hi
+    if s.len() - at < 2 {
+        return wide(s[at]);
+    }
+    pair(s, at)
 }
 
 // The 32 bits at `at`.
@@ -27,20 +28,53 @@ pub fn u32_at(s: &[u8], at: usize) -> u32
     if s.len() <= at {
         return 0;
     }
-    let lo = u16_at(s, at);
-    let hi = u16_at(s, at + 2);
-    lo as u32 + 65536 * (hi as u32)
+    if s.len() - at < 4 {
+        return two_pairs(u16_at(s, at), u16_at(s, at + 2));
+    }
+    four(s, at)
 }
 
-// The 64 bits at `at`.
+// The 64 bits at `at`. Eight bytes that are all there are read without a question between them, so that they become one load.
 pub fn u64_at(s: &[u8], at: usize) -> u64
     ensures { λ r. ⌜ r ≡ le64 (now (s .entry)) at ⌝ }
 {
     if s.len() <= at {
         return 0;
     }
-    let lo = u32_at(s, at);
-    let hi = u32_at(s, at + 4);
+    if s.len() - at < 8 {
+        return two_fours(u32_at(s, at), u32_at(s, at + 4));
+    }
+    two_fours(four(s, at), four(s, at + 4))
+}
+
+// The 16 bits of two bytes that are there.
+fn pair(s: &[u8], at: usize) -> u16
+    requires { ⌜ at + 2 ≤ length (now s) ⌝ }
+    ensures { λ r. ⌜ r ≡ le16 (now (s .entry)) at ⌝ }
+{
+    let lo = wide(s[at]);
+    let next = at + 1;
+    let hi = wide(s[next]);
+    lo + 256 * hi
+}
+
+// The 32 bits of four bytes that are there.
+fn four(s: &[u8], at: usize) -> u32
+    requires { ⌜ at + 4 ≤ length (now s) ⌝ }
+    ensures { λ r. ⌜ r ≡ le32 (now (s .entry)) at ⌝ }
+{
+    two_pairs(pair(s, at), pair(s, at + 2))
+}
+
+fn two_pairs(lo: u16, hi: u16) -> u32
+    ensures { λ r. ⌜ r ≡ lo + 65536 * hi ⌝ }
+{
+    lo as u32 + 65536 * (hi as u32)
+}
+
+fn two_fours(lo: u32, hi: u32) -> u64
+    ensures { λ r. ⌜ r ≡ lo + 4294967296 * hi ⌝ }
+{
     lo as u64 + 4294967296 * (hi as u64)
 }
 
@@ -80,16 +114,6 @@ pub fn finite(x: f64) -> bool
     ensures { λ r. ⌜ r ≡ finiteOf x ⌝ }
 {
     if x < 1.0 / 0.0 { -1.0 / 0.0 < x } else { false }
-}
-
-// The byte at `at`.
-fn byte_at(s: &[u8], at: usize) -> u8
-    ensures { λ r. ⌜ r ≡ getD (now (s .entry)) at 0 ⌝ }
-{
-    if s.len() <= at {
-        return 0;
-    }
-    s[at]
 }
 
 // A byte, widened, with its bound, so that a caller needs no fact about the slice's elements.

@@ -1,7 +1,7 @@
-use mathlib.Core.Path.{sym}
-use native.Mathlib.Omega.{arith}
 use Rattle.num.specs.Le.{le32}
+use native.Mathlib.Omega.{arith}
 use Rattle.num.specs.Past.{past32}
+use mathlib.Core.Path.{sym}
 use borrow.Author.Needs.{needs}
 use Rattle.num.proofs.u32_at.Statement.{statement}
 use Rattle.num.proofs.u32_at.Tie as tie
@@ -18,11 +18,11 @@ u32-at-spec =
     tie.close
     (tie.spec
     returns
-    (λ c κs. search needs)
     (λ c. search needs)
     (λ c κs. search needs)
     (λ c. search needs)
-    (λ c. search needs)
-    (λ c. search needs)
-    (λ c. search needs)
-    returns-2)
+    (λ c κs. search needs)
+    (λ c κs. search needs)
+    returns-2
+    (λ c κs. search needs)
+    (λ c. search needs))

@@ -1,27 +1,30 @@
+use mathlib.Core.Path.{_≡_, refl}
+use mathlib.Core.Bool.{Bool, true, false, cond}
+use lib.Ieee.{Float, lt, le}
 use borrow.Author.Needs.{needs}
+use Rattle.num.specs.Floats.{absoluteOf}
+use Rattle.models.specs.Signs.{_⊖_, _⊗_, two}
 use Rattle.models.specs.Diode.{limited}
 use Rattle.models.proofs.diode.limit.Statement.{statement}
 use Rattle.models.proofs.diode.limit.Tie as tie
 
-returns : tie.Need-returns
+-- a step within two thermal voltages passes on either side of the critical voltage
+near : (vt vcrit v last : Float) → le (absoluteOf (v ⊖ last)) (two ⊗ vt) ≡ true → v ≡ limited vt vcrit v last
 unfolding limited
-returns c = rw (c .if1 .taken)
+near vt vcrit v last h = rw h (go (lt v vcrit))
+  where
+    go : (b : Bool) → v ≡ cond b v v
+    go true = refl
+    go false = refl
+
+returns : tie.Need-returns
+returns c = near _ _ _ _ (rw (← c .before .absolute .ensures) (c .if1 .taken))
+
+limit-step-requires : tie.Need-limit-step-requires
+limit-step-requires c κs = rw (← c .before .before .absolute .ensures) (c .before .if1 .left)
 
 returns-2 : tie.Need-returns-2
-unfolding limited
-returns-2 c = rw (c .before .before .if1 .left, ← c .before .absolute .ensures, c .if2 .taken)
-
-returns-3 : tie.Need-returns-3
-unfolding limited
-returns-3 c = rw (c .before .before .before .before .if1 .left, ← c .before .before .before .absolute .ensures, c .before .before .if2 .left, c .before .if3 .taken, c .ln .ensures)
-
-returns-4 : tie.Need-returns-4
-unfolding limited
-returns-4 c = rw (c .before .before .before .before .if1 .left, ← c .before .before .before .absolute .ensures, c .before .before .if2 .left, c .before .if3 .left, c .if4 .taken)
-
-returns-5 : tie.Need-returns-5
-unfolding limited
-returns-5 c = rw (c .before .before .before .before .before .if1 .left, ← c .before .before .before .before .absolute .ensures, c .before .before .before .if2 .left, c .before .before .if3 .left, c .before .if4 .left, c .ln2 .ensures)
+returns-2 c = rw (← c .before .critical-voltage .ensures) (c .limit-step .ensures)
 
 pub limit-spec : {M : Type 1} → statement M
-limit-spec = tie.close (tie.spec returns (λ c κs. search needs) returns-2 (λ c κs. search needs) returns-3 returns-4 (λ c κs. search needs) returns-5)
+limit-spec = tie.close (tie.spec (λ c κs. search needs) returns (λ c κs. search needs) limit-step-requires returns-2)
