@@ -1,6 +1,7 @@
--- Back substitution writes every unknown before it reads it, so that only unknown 0 and the last need to be set beforehand. Assumes nothing.
-use mathlib.Core.Path.{_≡_, sym, ap, _∙_, subst}
+-- Back substitution writes every unknown before it reads it, so that only unknown 0 and the last need to be set beforehand; and which unknowns are finite. Assumes nothing.
+use mathlib.Core.Path.{_≡_, refl, sym, ap, _∙_, subst}
 use mathlib.Core.Logic.{_⊎_, ⊎-elim}
+use mathlib.Core.Bool.{Bool, true, false, cond}
 use mathlib.Core.List.{List}
 use Prim.Native.Nat.{ℕ, suc, _+_, _-_, _<_, _≤_}
 use native.Mathlib.Nat.{eq-or-lt-of-le}
@@ -8,11 +9,13 @@ use native.Mathlib.Numerals.{add-one}
 use native.Mathlib.Omega.{arith}
 use lib.ListN.{length, set, replicate, length-set, length-replicate, getD-replicate}
 use lib.Seq.{getD-set-same, getD-set-other, ext-getD}
-use lib.Ieee.{Float, nan, binary64, add, mul, div, sub}
+use lib.Ieee.{Float, nan, binary64, add, mul, div, sub, ofBits}
+use lib.Ieee.Scale.{finite}
 use Rattle.num.specs.Floats.{nought}
 use Rattle.loops.specs.Loop.{down}
 use Rattle.loops.specs.Laws.{turns-ext, down-rel, three}
 use Rattle.solve.specs.Solve.{«at», addOne, dot, unknown, lastUnknown, backOne, substituted}
+use Rattle.solve.specs.Inner.{AllFinite}
 
 -- two vectors of n unknowns that agree on unknown 0 and on all after i
 pub record Agree (n i : ℕ) (x y : List Float) : Type 0 where
@@ -75,3 +78,18 @@ started n x v h e =
 pub any-vector : (row : ℕ → ℕ) (n : ℕ) (m x : List Float) → 1 ≤ n → length x ≡ n → down (n - 2) (backOne row n m) (set (set x 0 nought) (n - 1) (lastUnknown row n m)) ≡ substituted row n m
 unfolding substituted
 any-vector row n m x h e = same-unknowns row n m (n - 2) _ _ (omega arith) (started n x (lastUnknown row n m) h e)
+
+-- ---- finite unknowns
+
+pub last-finite : (row : ℕ → ℕ) (n : ℕ) (m : List Float) → finite (lastUnknown row n m) ≡ true
+unfolding lastUnknown ofBits
+last-finite row n m = go (div binary64 («at» m (row (n - 1) + n)) («at» m (row (n - 1) + (n - 1)))) _ refl
+  where
+    go : (q : Float) (b : Bool) → finite q ≡ b → finite (cond b q nought) ≡ true
+    go q true e = e
+    go q false e = refl
+
+-- one more before those from i + 1 on
+pub more-finite : (i n : ℕ) (x : List Float) (v : Float) → i < length x → finite v ≡ true → AllFinite (i + 1) n x → AllFinite i n (set x i v)
+more-finite i n x v h e a j p q =
+    ⊎-elim (λ d. rw (← d, getD-set-same x i v nan h) e) (λ d. rw (getD-set-other x i j v nan (λ g. omega arith)) (a j (omega arith) q)) (eq-or-lt-of-le p)

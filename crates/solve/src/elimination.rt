@@ -7,6 +7,7 @@ ghost use lib.ListN.{length};
 ghost use lib.Ieee.{Float};
 ghost use Rattle.loops.specs.Loop.{turns};
 ghost use Rattle.solve.specs.Solve.{rowStart, swapped, reduced, clearOne, column as columnOf, eliminated};
+ghost use Rattle.solve.specs.Inner.{Rows, clearListed};
 use super::pivot;
 use super::rows;
 use super::update;
@@ -31,7 +32,20 @@ pub fn eliminate(m: &mut [f64], n: usize)
 }
 
 // Brings the pivot of column k to row k and clears the column below it. Answers whether elimination goes on: not where the pivot is zero.
+// A zero halfway down says that the column has few entries; either way it comes to the same.
 fn column(m: &mut [f64], n: usize, k: usize) -> bool
+    requires { ⌜ (k < n) × (n ≤ 48) × (n * (n + 1) ≤ length (now m)) ⌝ }
+    ensures { λ r. ⌜ _≡_ {A = Bool × List Float} (r, now (m .exit)) (columnOf (rowStart n) n k (now (m .entry))) ⌝ }
+{
+    let at = rows::row_start(n, (k + n) / 2) + k;
+    if m[at] == 0.0 {
+        return sparse_column(m, n, k);
+    }
+    full_column(m, n, k)
+}
+
+// The same, row after row.
+fn full_column(m: &mut [f64], n: usize, k: usize) -> bool
     requires { ⌜ (k < n) × (n ≤ 48) × (n * (n + 1) ≤ length (now m)) ⌝ }
     ensures { λ r. ⌜ _≡_ {A = Bool × List Float} (r, now (m .exit)) (columnOf (rowStart n) n k (now (m .entry))) ⌝ }
 {
@@ -44,6 +58,24 @@ fn column(m: &mut [f64], n: usize, k: usize) -> bool
     let to = rows::row_start(n, k);
     swap_rows(m, p, to, n + 1);
     clear_below(m, n, k, end);
+    true
+}
+
+// The same, with a list of the rows that are not zero in the column, so that the others are looked at once.
+fn sparse_column(m: &mut [f64], n: usize, k: usize) -> bool
+    requires { ⌜ (k < n) × (n ≤ 48) × (n * (n + 1) ≤ length (now m)) ⌝ }
+    ensures { λ r. ⌜ _≡_ {A = Bool × List Float} (r, now (m .exit)) (columnOf (rowStart n) n k (now (m .entry))) ⌝ }
+{
+    let mut list = [0; 48];
+    let found = pivot::search(m, &mut list, n, k);
+    let p = rows::row_start(n, found.row);
+    let at = p + k;
+    if m[at] == 0.0 {
+        return false;
+    }
+    let to = rows::row_start(n, k);
+    swap_rows(m, p, to, n + 1);
+    clear_listed(m, &list, n, k, found.count);
     true
 }
 
@@ -78,6 +110,19 @@ fn clear_below(m: &mut [f64], n: usize, k: usize, end: usize)
     }
 }
 
+// Clears column k in the first `count` rows of the list.
+fn clear_listed(m: &mut [f64], list: &[u8], n: usize, k: usize, count: usize)
+    requires { ⌜ (k < n) × (n ≤ 48) × (n * (n + 1) ≤ length (now m)) × (count ≤ length (now list)) × Rows n count (now list) ⌝ }
+    ensures { λ _. ⌜ now (m .exit) ≡ turns count (clearListed n k (now (list .entry))) (now (m .entry)) ⌝ }
+{
+    let from = rows::row_start(n, k) + k;
+    let len = n + 1 - k;
+    for i in 0..count {
+        let to = rows::row_start(n, list[i] as usize) + k;
+        reduce_listed(m, from, to, len);
+    }
+}
+
 // Clears the entries from `to` on by those from `from` on, the pivot.
 fn reduce(m: &mut [f64], from: usize, to: usize, len: usize)
     requires { ⌜ (0 < len) × (from + len ≤ length (now m)) × (to + len ≤ length (now m)) ⌝ }
@@ -88,4 +133,16 @@ fn reduce(m: &mut [f64], from: usize, to: usize, len: usize)
     }
     let ratio = m[to] / m[from];
     update::less_scaled(m, from, to, len, ratio);
+}
+
+// The same as `reduce`, in one loop. With a caller of its own each of the two is compiled into it, where what does not change from row to row is worked out once.
+fn reduce_listed(m: &mut [f64], from: usize, at: usize, len: usize)
+    requires { ⌜ (0 < len) × (from + len ≤ length (now m)) × (at + len ≤ length (now m)) ⌝ }
+    ensures { λ _. ⌜ now (m .exit) ≡ reduced from at len (now (m .entry)) ⌝ }
+{
+    if m[at] == 0.0 {
+        return;
+    }
+    let ratio = m[at] / m[from];
+    update::less_many(m, from, at, len, ratio);
 }

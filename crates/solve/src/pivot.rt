@@ -1,12 +1,25 @@
-// The search for the pivot of a column.
+// The search for the pivot of a column: in the rows up to the last that is not zero, or, where few are expected to be, with a list of them.
 ghost use mathlib.Core.Path.{_≡_};
-ghost use Prim.Native.Nat.{_+_, _-_, _*_, _≤_, _<_};
+ghost use Prim.Native.Nat.{ℕ, _+_, _-_, _*_, _≤_, _<_};
 ghost use lib.ListN.{length};
+ghost use lib.Ieee.{Float};
 ghost use Rattle.num.specs.Floats.{nought};
 ghost use Rattle.loops.specs.Loop.{turns};
-ghost use Rattle.solve.specs.Solve.{«at», rowStart, larger};
-ghost use Rattle.solve.specs.Inner.{Empty, unsignedOf, firstOf};
+ghost use Rattle.solve.specs.Solve.{«at», rowStart, larger, indexOfNextAbs};
+ghost use Rattle.solve.specs.Inner.{Empty, Rows, Lists, unsignedOf, pick, firstOf};
 use super::rows;
+
+// What a search finds: the pivot's row, and how many rows after row k it has listed.
+pub struct Found {
+    pub row: usize,
+    pub count: usize,
+}
+
+// The largest absolute entry so far, and its row.
+struct Best {
+    size: f64,
+    row: usize,
+}
 
 // The end of the rows, from row k on, that are not zero in column k; past row k at least.
 pub fn reach(m: &[f64], n: usize, k: usize) -> usize
@@ -78,6 +91,40 @@ fn size_at(m: &[f64], n: usize, k: usize, r: usize) -> f64
 {
     let at = rows::row_start(n, r) + k;
     unsigned(m[at])
+}
+
+// The row with the largest absolute entry in column k, among the rows from k on. The rows after row k that are not zero there are listed in `list`, in rising order.
+pub fn search(m: &[f64], list: &mut [u8], n: usize, k: usize) -> Found
+    requires { ⌜ (k < n) × (n ≤ 48) × (n * (n + 1) ≤ length (now m)) × (48 ≤ length (now list)) ⌝ }
+    ensures { λ r. ⌜ (r .row ≡ indexOfNextAbs (rowStart n) n k (now (m .entry))) × (r .row < n) × (r .count ≤ 48) × Rows n (r .count) (now (list .exit)) × Lists n k n (r .count) (now (list .exit)) (now (m .entry)) ⌝ }
+{
+    let own = rows::row_start(n, k) + k;
+    let mut best = larger_of(Best { size: 0.0, row: k }, m[own], k);
+    let mut count = 0;
+    for r in k + 1..n {
+        let at = rows::row_start(n, r) + k;
+        let x = m[at];
+        if x != 0.0 {
+            best = larger_of(best, x, r);
+            list[count] = r as u8;
+            count += 1;
+        }
+    }
+    Found {
+        row: best.row,
+        count: count,
+    }
+}
+
+// The larger of the best so far and the entry x of row r; the best so far on a tie.
+fn larger_of(best: Best, x: f64, r: usize) -> Best
+    ensures { λ b. ⌜ _≡_ {A = Float × ℕ} (b .size, b .row) (pick r (unsignedOf x) (best .size, best .row)) ⌝ }
+{
+    let size = unsigned(x);
+    if best.size < size {
+        return Best { size: size, row: r };
+    }
+    best
 }
 
 // x without its sign; a zero keeps it, which no comparison sees.

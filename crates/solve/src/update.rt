@@ -22,7 +22,7 @@ fn fours(len: usize) -> usize
 }
 
 // The same as `less_scaled`, in one loop.
-fn less_many(m: &mut [f64], from: usize, to: usize, len: usize, ratio: f64)
+pub fn less_many(m: &mut [f64], from: usize, to: usize, len: usize, ratio: f64)
     requires { ⌜ (from + len ≤ length (now m)) × (to + len ≤ length (now m)) ⌝ }
     ensures { λ _. ⌜ now (m .exit) ≡ lessScaled from to len ratio (now (m .entry)) ⌝ }
 {

@@ -1,7 +1,7 @@
 use Rattle.solve.proofs.Columns.{stops, goes}
 use borrow.Author.Needs.{needs}
-use Rattle.solve.proofs.elimination.column.Statement.{statement}
-use Rattle.solve.proofs.elimination.column.Tie as tie
+use Rattle.solve.proofs.elimination.full_column.Statement.{statement}
+use Rattle.solve.proofs.elimination.full_column.Tie as tie
 
 returns : tie.Need-returns
 returns c =
@@ -19,8 +19,8 @@ returns-2 c =
     let e = rw (c .before .before .before .before .before .before .before .before .before .before .before .row-start .ensures .0, c .before .before .before .before .before .before .before .before .row-start2 .ensures .0) at (c .before .before .before .before .before .before .swap-rows .ensures) in
     goes (a .n) (a .k) (r .result) (r .ensures .0) (r .ensures .1) _ (a .m .now) (c .before .before .before .before .before .before .before .before .before .before .before .before .before .before .before .before .before .pre .2) (r .ensures .2) (p .ensures .0) _ _ (p .ensures .1) t e (search needs) (c .before .before .clear-below .ensures)
 
-pub column-spec : {M : Type 1} → statement M
-column-spec =
+pub full-column-spec : {M : Type 1} → statement M
+full-column-spec =
     tie.close
     (tie.spec
     (λ c κs. search needs)
