@@ -242,5 +242,5 @@ cases =
 
 -- every case's answer is the document's
 answers : all cases ≡ true
-unfolding floats.absoluteOf le.le32 le.le64 le.floatAt loop.copied loop.rowAt checks.badOrder checks.badCounts checks.badRoom checks.refusalOf checks.checkedOf sheet.checkFrom sheet.badSheet sheet.badPoints range.nodesOf range.sourcesOf range.pointsOf range.nodesFit range.sourcesFit range.pointsFit range.elementFault bytes.recordAt bytes.elementOf bytes.usesOf bytes.zeros bytes.restZero bytes.decodeOf row.rowOf kinds.currentWrites kinds.conductanceWrites kinds.voltageWrites kinds.vcvsWrites kinds.vccsWrites kinds.capacitorWrites kinds.diodeWrites write.written write.stamped diodes.biased diodes.biasedAt diodes.diodesOf linear.baseWrites linear.dependentWrites linear.storageWrites linear.basedOn linear.dependentOf linear.storageOf records.writesOf sources.driven sources.drivenAt sources.independentOf stamping.baseOf stamping.completed stamping.stampOf capacitor.companionOf vpwl.lastOf vpwl.between vpwl.orZero vpwl.levelOn vpwl.levelAt vpwl.patternAt solve.indexOfNextAbs solve.swapped solve.lessScaled solve.reduced solve.cleared solve.column solve.eliminated solve.dot solve.unknown solve.lastUnknown solve.substituted solve.solution convergence.limit convergence.place convergence.checked convergence.convergenceOf control.dcOver control.dcAfter control.moved control.eased control.shortened control.stepAfter counters.next counters.verdictOf counters.dcVerdictOf machine.tried machine.writtenBy machine.landed machine.dcPass machine.stepPass machine.pass machine.runFor attempt.attemptOf begin.forgotten engine.runOf result.endingOf result.refusedOf work.endOf exact.units judge.total judge.residual judge.named judge.refusalOf judge.judgeOf Ieee.ofBits Ieee.toBits Ieee.add Ieee.sub Ieee.mul Ieee.div Ieee.rem Ieee.lt Ieee.le Ieee.eq Ieee.isNan
+unfolding floats.absoluteOf le.le32 le.le64 le.floatAt loop.copied loop.rowAt checks.badOrder checks.badCounts checks.badRoom checks.refusalOf checks.checkedOf sheet.checkFrom sheet.badSheet sheet.badPoints range.nodesOf range.sourcesOf range.pointsOf range.nodesFit range.sourcesFit range.pointsFit range.elementFault bytes.recordAt bytes.elementOf bytes.usesOf bytes.zeros bytes.restZero bytes.decodeOf row.rowOf kinds.currentWrites kinds.conductanceWrites kinds.voltageWrites kinds.vcvsWrites kinds.vccsWrites kinds.capacitorWrites kinds.diodeWrites write.written write.stamped diodes.biased diodes.biasedAt diodes.diodesOf linear.baseWrites linear.dependentWrites linear.storageWrites linear.basedOn linear.dependentOf linear.storageOf records.writesOf sources.driven sources.drivenAt sources.independentOf stamping.baseOf stamping.completed stamping.linearOf stamping.stampOf capacitor.companionOf vpwl.lastOf vpwl.between vpwl.orZero vpwl.levelOn vpwl.levelAt vpwl.patternAt solve.indexOfNextAbs solve.swapped solve.lessScaled solve.reduced solve.cleared solve.column solve.eliminated solve.dot solve.unknown solve.lastUnknown solve.substituted solve.solution convergence.limit convergence.place convergence.checked convergence.convergenceOf control.dcOver control.dcAfter control.moved control.eased control.shortened control.stepAfter counters.next counters.verdictOf counters.dcVerdictOf machine.tried machine.writtenBy machine.landed machine.dcPass machine.stepPass machine.pass machine.runFor attempt.attemptOf begin.forgotten engine.runOf result.endingOf result.refusedOf work.endOf exact.units judge.total judge.residual judge.named judge.refusalOf judge.judgeOf Ieee.ofBits Ieee.toBits Ieee.add Ieee.sub Ieee.mul Ieee.div Ieee.rem Ieee.lt Ieee.le Ieee.eq Ieee.isNan
 answers = refl

@@ -1,12 +1,13 @@
 -- Laws of a pass's stamping: no length changes, its verdicts are 0, 22 and 26, and the memory of a record that is no diode stays. Assumes nothing.
--- Clients cite base-length, Fine, fine and memory-stays.
-use Prim.Native.Nat.{ℕ}
+-- Clients cite base-length, Fine, fine, memory-stays and no-diodes.
+use Prim.Native.Nat.{ℕ, zero, suc, _<_}
 use mathlib.Core.Path.{_≡_, refl, sym, ap, _∙_}
 use mathlib.Core.Logic.{_⊎_, inl, inr, ⊎-elim}
-use mathlib.Core.Bool.{Bool, true, false, cond}
+use mathlib.Core.Bool.{Bool, true, false, cond, _||_, false≢true}
 use native.Mathlib.Omega.{arith}
+use native.Mathlib.Nat.{not-suc-le-zero, le-of-suc-le-suc, eq-or-lt-of-le}
 use mathlib.Core.List.{List}
-use borrow.Author.Tests.{eqb-true, eqb-false, lt-ltb, le-ltb}
+use borrow.Author.Tests.{eqb-true, eqb-false, eq-eqb, lt-ltb, le-ltb}
 use lib.Dec.{eqb}
 use lib.ListN.{length, getD, length-set, length-replicate}
 use lib.Seq.{getD-set-other}
@@ -36,8 +37,8 @@ use Rattle.groups.specs.Records.{elementAt, onRecord, across}
 use Rattle.groups.specs.Passing.{outside}
 use Rattle.groups.specs.Linear.{basedOn, dependentOf, storageOf}
 use Rattle.groups.specs.Sources.{Driven, drivenOf, levelled, driven, drivenAt, independentOf}
-use Rattle.groups.specs.Diodes.{Stamped, stampedOf, companion, biased, biasedAt, diodesOf}
-use Rattle.groups.specs.Stamping.{baseOf, sourceTime, completed, stampOf}
+use Rattle.groups.specs.Diodes.{Stamped, stampedOf, companion, biased, biasedAt, diodesOf, diodeBelow, hasDiodes}
+use Rattle.groups.specs.Stamping.{baseOf, sourceTime, completed, linearOf, stampOf}
 use Rattle.groups.specs.Quiet.{quiet-biased}
 
 pub base-length : (nodes n : ℕ) (sheet : List ℕ) (base : List Float) → length (baseOf nodes n sheet base) ≡ length base
@@ -174,40 +175,66 @@ unfolding storageOf
 added-length n x step sheet m true = stamped-length n _ m
 added-length n x step sheet m false = refl
 
-completed-fine : (o : Options) (p : Pass) (sheet : List ℕ) (x v y m : List Float) → Fine m y (completed o p sheet x v y m)
+completed-length : (p : Pass) (sheet : List ℕ) (x m : List Float) → length (completed p sheet x m) ≡ length m
 unfolding completed dependentOf
-completed-fine o p sheet x v y m =
-    let d = dependentOf (p .nodes) (p .order) sheet m in
-    let a = cond (p .transient) (storageOf (p .order) x (p .step) sheet d) d in
-    let k = diodes-fine o sheet (p .order) v a y in
-    record {
-      matrix-length = k .0 ∙ (added-length (p .order) x (p .step) sheet d (p .transient) ∙ stamped-length (p .order) _ m);
-      memory-length = k .1;
-      coded = ⊎-elim inl (λ e. inr (inl e)) (k .2);
-    }
+completed-length p sheet x m = added-length (p .order) x (p .step) sheet (dependentOf (p .nodes) (p .order) sheet m) (p .transient) ∙ stamped-length (p .order) _ m
+
+linear-fine : (p : Pass) (sheet points : List ℕ) (base x m : List Float) → Sourced m (linearOf p sheet points base x m)
+unfolding linearOf
+linear-fine p sheet points base x m = by-code (eqb (a .code) 0) refl
+  where
+    a : Driven
+    a = independentOf sheet points (sourceTime p) (p .nodes) (p .order) (copied base m)
+
+    k : Sourced (copied base m) a
+    k = independent-fine sheet points (sourceTime p) (p .nodes) (p .order) (copied base m)
+
+    by-code : (b : Bool) → eqb (a .code) 0 ≡ b → Sourced m (linearOf p sheet points base x m)
+    by-code true e = rw e (completed-length p sheet x (a .matrix) ∙ (k .0 ∙ copied-length base m), inl refl)
+    by-code false e = rw e (k .0 ∙ copied-length base m, k .1)
 
 module _ (o : Options) (p : Pass) (sheet points : List ℕ) (base x v y m : List Float) where
   pub fine : Fine m y (stampOf o p sheet points base x v y m)
   unfolding stampOf
-  fine = by-code (eqb (a .code) 0) refl
+  fine = by-code (eqb (l .code) 0) refl
     where
-      a : Driven
-      a = independentOf sheet points (sourceTime p) (p .nodes) (p .order) (copied base m)
+      l : Driven
+      l = linearOf p sheet points base x m
 
-      k : Sourced (copied base m) a
-      k = independent-fine sheet points (sourceTime p) (p .nodes) (p .order) (copied base m)
+      k : Sourced m l
+      k = linear-fine p sheet points base x m
 
-      by-code : (b : Bool) → eqb (a .code) 0 ≡ b → Fine m y (stampOf o p sheet points base x v y m)
+      by-code : (b : Bool) → eqb (l .code) 0 ≡ b → Fine m y (stampOf o p sheet points base x v y m)
       by-code true e =
-          let f = completed-fine o p sheet x v y (a .matrix) in
-          rw e record { matrix-length = f .matrix-length ∙ (k .0 ∙ copied-length base m); memory-length = f .memory-length; coded = f .coded }
-      by-code false e = rw e record { matrix-length = k .0 ∙ copied-length base m; memory-length = refl; coded = ⊎-elim inl (λ h. inr (inr h)) (k .1) }
+          let d = diodes-fine o sheet (p .order) v (l .matrix) y in
+          rw e record { matrix-length = d .0 ∙ k .0; memory-length = d .1; coded = ⊎-elim inl (λ h. inr (inl h)) (d .2) }
+      by-code false e = rw e record { matrix-length = k .0; memory-length = refl; coded = ⊎-elim inl (λ h. inr (inr h)) (k .1) }
 
   -- "other records' floats untouched"
   pub memory-stays : (j : ℕ) → (kindAt sheet j ≡ 4 → ⊥) → getD (stampOf o p sheet points base x v y m .memory) j nan ≡ getD y j nan
-  unfolding stampOf completed
-  memory-stays j other = by-code (eqb (independentOf sheet points (sourceTime p) (p .nodes) (p .order) (copied base m) .code) 0) refl
+  unfolding stampOf
+  memory-stays j other = by-code (eqb (linearOf p sheet points base x m .code) 0) refl
     where
-      by-code : (b : Bool) → eqb (independentOf sheet points (sourceTime p) (p .nodes) (p .order) (copied base m) .code) 0 ≡ b → getD (stampOf o p sheet points base x v y m .memory) j nan ≡ getD y j nan
+      by-code : (b : Bool) → eqb (linearOf p sheet points base x m .code) 0 ≡ b → getD (stampOf o p sheet points base x v y m .memory) j nan ≡ getD y j nan
       by-code true e = rw e (diodes-leave o sheet (p .order) v j other _ y)
       by-code false e = rw e
+
+-- ---- no diode
+
+-- a record that is no diode among those that hold none
+no-diode-at : (sheet : List ℕ) (k i : ℕ) → diodeBelow sheet k ≡ false → i < k → kindAt sheet i ≡ 4 → ⊥
+unfolding diodeBelow
+no-diode-at sheet zero i h l e = not-suc-le-zero l
+no-diode-at sheet (suc k) i h l e =
+    ⊎-elim (λ q. false≢true (sym (neither (diodeBelow sheet k) _ h .1) ∙ eq-eqb (kindAt sheet k) 4 (ap (kindAt sheet) (sym q) ∙ e))) (λ q. no-diode-at sheet k i (neither (diodeBelow sheet k) _ h .0) q e) (eq-or-lt-of-le (le-of-suc-le-suc l))
+  where
+    neither : (a b : Bool) → (a || b) ≡ false → (a ≡ false) × (b ≡ false)
+    neither false b q = (refl, q)
+    neither true b q = absurd (false≢true (sym q))
+
+-- where no record is a diode, nothing is stamped and nothing remembered
+pub no-diodes : (o : Options) (sheet : List ℕ) (n : ℕ) (x m y : List Float) → hasDiodes sheet ≡ false → diodesOf o sheet n x m y ≡ stampedOf 0 m y
+unfolding hasDiodes diodesOf biasedAt
+no-diodes o sheet n x m y none =
+    turns-inv (λ (s : Stamped). s ≡ stampedOf 0 m y) (biasedAt o sheet n x) (recordsOf sheet) (stampedOf 0 m y) refl
+    (λ i l s k. rw k (not-diode o sheet n x i (no-diode-at sheet (recordsOf sheet) i none l) m y (elementAt sheet i) refl))

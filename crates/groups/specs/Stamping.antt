@@ -1,4 +1,4 @@
--- The base of a run and the stamping of a pass. Clients cite baseOf, Stamped, stampedOf and stampOf, and never open the last.
+-- The base of a run and the stamping of a pass. Clients cite baseOf, linearOf and stampOf.
 use Prim.Native.Nat.{ℕ}
 use mathlib.Core.Bool.{cond}
 use mathlib.Core.List.{List}
@@ -10,7 +10,7 @@ use Rattle.options.specs.declared.Options.{Options}
 use Rattle.loops.specs.Loop.{copied, zerosLike}
 use Rattle.groups.specs.declared.Pass.{Pass}
 use Rattle.groups.specs.Linear.{basedOn, dependentOf, storageOf}
-use Rattle.groups.specs.Sources.{independentOf}
+use Rattle.groups.specs.Sources.{Driven, drivenOf, independentOf}
 use Rattle.groups.specs.Diodes.{Stamped, stampedOf, diodesOf}
 
 -- "Base: I, R, V in list order", over zeros
@@ -21,14 +21,20 @@ baseOf nodes n sheet base = basedOn nodes n sheet (zerosLike base)
 abbrev pub sourceTime : Pass → Float
 sourceTime p = cond (p .transient) (Ieee.add binary64 (p .time) (p .step)) nought
 
--- dependent, storage (transient) and diode stamps, over a matrix with the independent ones; x is the last accepted vector, v the last solved
-unfoldable pub completed : Options → Pass → List ℕ → List Float → List Float → List Float → List Float → Stamped
-completed o p sheet x v y m =
+-- dependent and storage (transient) stamps, over a matrix with the independent ones; x is the last accepted vector
+unfoldable pub completed : Pass → List ℕ → List Float → List Float → List Float
+completed p sheet x m =
     let d = dependentOf (p .nodes) (p .order) sheet m in
-    diodesOf o sheet (p .order) v (cond (p .transient) (storageOf (p .order) x (p .step) sheet d) d) y
+    cond (p .transient) (storageOf (p .order) x (p .step) sheet d) d
 
--- "Each pass adds independent, dependent, storage (transient) and diode stamps": over a copy of the base, until one ends it by 26 or 22
+-- what a pass stamps before its diodes: over a copy of the base, until a sine ends it by 26. The last solved vector and the memory have no share in it, so that passes of one step have it in common.
+unfoldable pub linearOf : Pass → List ℕ → List ℕ → List Float → List Float → List Float → Driven
+linearOf p sheet points base x m =
+    let a = independentOf sheet points (sourceTime p) (p .nodes) (p .order) (copied base m) in
+    cond (eqb (a .code) 0) (drivenOf 0 (completed p sheet x (a .matrix))) a
+
+-- "Each pass adds independent, dependent, storage (transient) and diode stamps", until one ends it by 26 or 22; v is the last solved vector
 unfoldable pub stampOf : Options → Pass → List ℕ → List ℕ → List Float → List Float → List Float → List Float → List Float → Stamped
 stampOf o p sheet points base x v y m =
-    let a = independentOf sheet points (sourceTime p) (p .nodes) (p .order) (copied base m) in
-    cond (eqb (a .code) 0) (completed o p sheet x v y (a .matrix)) (stampedOf (a .code) (a .matrix) y)
+    let l = linearOf p sheet points base x m in
+    cond (eqb (l .code) 0) (diodesOf o sheet (p .order) v (l .matrix) y) (stampedOf (l .code) (l .matrix) y)

@@ -8,8 +8,11 @@ use sheet::Decoded;
 use sheet::Element;
 ghost use mathlib.Core.Path.{_≡_};
 ghost use lib.ListN.{set};
-ghost use Rattle.groups.specs.Diodes.{stampedOf, companion, biased, biasedAt, diodesOf};
+ghost use Rattle.groups.specs.Diodes.{stampedOf, companion, biased, biasedAt, diodesOf, hasDiodes};
 ghost use Rattle.groups.specs.Records.{onRecord};
+
+// The kind of a diode's record.
+const DIODE: u8 = 4;
 
 // A diode's current is not finite.
 const CURRENT: u8 = 22;
@@ -31,6 +34,18 @@ pub fn stamp_diodes(
         code = diode_at(code, o, sheet, n, x, i, memory, m);
     }
     code
+}
+
+// Whether some record is of a diode's kind.
+pub fn has_diodes(sheet: &[u8]) -> bool
+    ensures { λ r. ⌜ r ≡ hasDiodes (now (sheet .entry)) ⌝ }
+{
+    let count = sheet::records(sheet);
+    let mut found = false;
+    for i in 0..count {
+        found = found | (sheet::kind_at(sheet, i) == DIODE);
+    }
+    found
 }
 
 // Record i, unless there is a verdict already.

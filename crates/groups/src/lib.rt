@@ -1,14 +1,13 @@
 // The stamping groups over a sheet: the base of a run, and what each pass adds to it. Every function is total: a record that does not decode writes
 // nothing, a number read past the end of a vector is no number, and nothing is written outside the system or past a buffer's end.
-mod diodes;
+pub mod diodes;
 mod linear;
 mod records;
 mod sources;
 
 ghost use mathlib.Core.Path.{_≡_};
-ghost use Rattle.groups.specs.Diodes.{stampedOf};
-ghost use Rattle.groups.specs.Stamping.{baseOf, sourceTime, completed, stampOf};
-use options::Options;
+ghost use Rattle.groups.specs.Sources.{drivenOf};
+ghost use Rattle.groups.specs.Stamping.{baseOf, sourceTime, completed, linearOf};
 
 // Which pass is stamped: the node count, the order (nodes and sources), and in the transient the time and the step.
 pub struct Pass {
@@ -27,43 +26,32 @@ pub fn stamp_base(sheet: &[u8], nodes: usize, order: usize, base: &mut [f64])
     linear::stamp_base(sheet, nodes, order, base);
 }
 
-// Stamps one pass over a copy of the base, and answers 0, or the verdict 22 or 26 that ended it.
-pub fn stamp_pass(
-    o: Options,
+// Stamps over a copy of the base what a pass has besides its diodes, and answers 0, or the verdict 26 that ended it.
+pub fn stamp_linear(
     p: Pass,
     sheet: &[u8],
     points: &[u8],
     base: &[f64],
     accepted: &[f64],
-    vector: &[f64],
-    memory: &mut [f64],
     matrix: &mut [f64],
 ) -> u8
-    ensures { λ r. ⌜ stampedOf r (now (matrix .exit)) (now (memory .exit)) ≡ stampOf o p (now (sheet .entry)) (now (points .entry)) (now (base .entry)) (now (accepted .entry)) (now (vector .entry)) (now (memory .entry)) (now (matrix .entry)) ⌝ }
+    ensures { λ r. ⌜ drivenOf r (now (matrix .exit)) ≡ linearOf p (now (sheet .entry)) (now (points .entry)) (now (base .entry)) (now (accepted .entry)) (now (matrix .entry)) ⌝ }
 {
     loops::copy(base, matrix);
     let code = sources::stamp_independent(sheet, points, source_time(p), p.nodes, p.order, matrix);
     if code != 0 {
         return code;
     }
-    complete(o, p, sheet, accepted, vector, memory, matrix)
+    complete(p, sheet, accepted, matrix);
+    0
 }
 
 // The stamps that follow the independent sources.
-fn complete(
-    o: Options,
-    p: Pass,
-    sheet: &[u8],
-    accepted: &[f64],
-    vector: &[f64],
-    memory: &mut [f64],
-    matrix: &mut [f64],
-) -> u8
-    ensures { λ r. ⌜ stampedOf r (now (matrix .exit)) (now (memory .exit)) ≡ completed o p (now (sheet .entry)) (now (accepted .entry)) (now (vector .entry)) (now (memory .entry)) (now (matrix .entry)) ⌝ }
+fn complete(p: Pass, sheet: &[u8], accepted: &[f64], matrix: &mut [f64])
+    ensures { λ _. ⌜ now (matrix .exit) ≡ completed p (now (sheet .entry)) (now (accepted .entry)) (now (matrix .entry)) ⌝ }
 {
     linear::stamp_dependent(sheet, p.nodes, p.order, matrix);
     linear::stamp_storage_if(p.transient, sheet, p.order, accepted, p.step, matrix);
-    diodes::stamp_diodes(o, sheet, p.order, vector, memory, matrix)
 }
 
 // The time at which sources have their level.

@@ -15,17 +15,19 @@ use Rattle.convergence.specs.declared.Convergence.{Convergence}
 use Rattle.convergence.specs.Convergence.{convergenceOf}
 use Rattle.steps.specs.declared.Counters.{Counters}
 use Rattle.steps.specs.declared.Report.{Report}
-use Rattle.steps.specs.declared.Report.the-variants.{Diode, Sine}
-use Rattle.steps.specs.Verdicts.{diode, transientPhase}
+use Rattle.steps.specs.Verdicts.{transientPhase}
 use Rattle.steps.specs.Control.{reportOf, dcAfter, stepAfter}
 use Rattle.groups.specs.declared.Pass.{Pass}
-use Rattle.groups.specs.Diodes.{Stamped, stampedOf}
-use Rattle.groups.specs.Stamping.{stampOf}
+use Rattle.groups.specs.Sources.{Driven, drivenOf}
+use Rattle.groups.specs.Diodes.{Stamped, stampedOf, diodesOf, hasDiodes}
+use Rattle.groups.specs.Stamping.{linearOf, stampOf}
+use Rattle.groups.specs.Laws.{no-diodes}
 use Rattle.solve.specs.Solve.{Solved, solvedAs, solution, solveOf}
 use Rattle.solve.specs.Laws.{solution-length, solves-whole}
 use Rattle.machine.specs.State.{State, stateOf, Job, Attempt, Tried, triedOf, Written, writtenOf}
 use Rattle.machine.specs.Machine.{before, tried, writtenBy, landed, accepts, dcPass, stepPass}
-use Rattle.passes.specs.Attempt.{Circuit, passOf, attemptOf}
+use Rattle.passes.specs.Attempt.{Circuit, attemptOf}
+use Rattle.passes.specs.Again.{linearAt, failureOf, finished, Holds}
 use Rattle.passes.specs.Run.{Renewed, renewedOf, renewed}
 
 -- ---- solving, from its calls
@@ -41,26 +43,55 @@ module _ (o : Options) (nodes n r : ℕ) (first : Bool) (m x v m′ x′ v₁ v�
 -- ---- an attempt, from its calls
 
 -- stamping starts from a copy of the base, whatever stood in the matrix
-stamp-anew : (o : Options) (p : Pass) (sheet points : List ℕ) (base x v y m : List Float) → length base ≡ length m → stampOf o p sheet points base x v y m ≡ stampOf o p sheet points base x v y base
-unfolding stampOf
-stamp-anew o p sheet points base x v y m h = rw (copied-same base m h, copied-same base base refl)
+pub linear-anew : (p : Pass) (sheet points : List ℕ) (base x m : List Float) → length base ≡ length m → linearOf p sheet points base x m ≡ linearOf p sheet points base x base
+unfolding linearOf
+linear-anew p sheet points base x m h = rw (copied-same base m h, copied-same base base refl)
 
-module _ (k : Circuit) (c : Counters) (acc sys vec mem work : List Float) (code : ℕ) (m y : List Float) (h : length (k .base) ≡ length work)
-    (e : stampedOf code m y ≡ stampOf (k .options) (passOf (k .nodes) (k .order) c) (k .sheet) (k .points) (k .base) acc vec mem work) where
-  anew : stampedOf code m y ≡ stampOf (k .options) (passOf (k .nodes) (k .order) c) (k .sheet) (k .points) (k .base) acc vec mem (k .base)
-  anew = e ∙ stamp-anew _ _ _ _ _ _ _ _ _ h
+-- a code that is 0
+pub whole-code : (k : ℕ) (m : List Float) (l : Driven) → k ≡ 0 → drivenOf k m ≡ l → drivenOf 0 m ≡ l
+whole-code k m l z e = ap (λ (n : ℕ). drivenOf n m) (sym z) ∙ e
 
-  pub failed-diode : code ≡ diode → triedOf Diode sys vec y ≡ tried (attemptOf k) (k .options) (k .nodes) c acc sys vec mem
-  unfolding tried attemptOf
-  failed-diode z = rw (← anew, z)
+module _ (k : Circuit) (c : Counters) (acc sys vec mem : List Float) where
+  -- a sine ended it before the diodes
+  pub unstamped : (code : ℕ) (m : List Float) → drivenOf code m ≡ linearAt k c acc → (code ≡ 0 → ⊥) → triedOf (failureOf code) sys vec mem ≡ tried (attemptOf k) (k .options) (k .nodes) c acc sys vec mem
+  unfolding tried attemptOf stampOf failureOf
+  unstamped code m e z = rw (← e, ne-eqb _ _ z, ne-eqb _ _ z, ne-eqb _ _ z)
 
-  pub failed-sine : (code ≡ diode → ⊥) → (code ≡ 0 → ⊥) → triedOf Sine sys vec y ≡ tried (attemptOf k) (k .options) (k .nodes) c acc sys vec mem
-  unfolding tried attemptOf
-  failed-sine d z = rw (← anew, ne-eqb _ _ z, ne-eqb _ _ z, ne-eqb _ _ d)
+  -- it came to the diodes
+  pub stamped-first : (m : List Float) → drivenOf 0 m ≡ linearAt k c acc → length vec ≡ k .order → finished (k .options) (k .nodes) (c .first) (k .sheet) m sys vec mem ≡ tried (attemptOf k) (k .options) (k .nodes) c acc sys vec mem
+  unfolding tried attemptOf stampOf finished
+  stamped-first m e l = rw (← e, l)
 
-  pub solved : (r : Report) (s v : List Float) → code ≡ 0 → length vec ≡ k .order → s ≡ m → renewedOf r v ≡ renewed (k .options) (k .nodes) (c .first) m vec → triedOf r s v y ≡ tried (attemptOf k) (k .options) (k .nodes) c acc sys vec mem
-  unfolding tried attemptOf renewed
-  solved r s v z l p q = rw (← anew, z, p, ← l) (ap (λ (x : Renewed). triedOf (x .report) m (x .vector) y) q)
+  -- without diodes the last pass's system and vector come again
+  pub repeated : hasDiodes (k .sheet) ≡ false → linearAt k c acc ≡ drivenOf 0 sys → vec ≡ solution (k .order) sys → c .first ≡ false → triedOf (reportOf (convergenceOf vec vec (k .nodes) (k .options))) sys vec mem ≡ tried (attemptOf k) (k .options) (k .nodes) c acc sys vec mem
+  unfolding tried attemptOf stampOf
+  repeated none e v f = rw (e, no-diodes (k .options) (k .sheet) (k .order) vec sys mem none, f, ← v)
+
+  without-diodes : (m : List Float) → hasDiodes (k .sheet) ≡ false → finished (k .options) (k .nodes) (c .first) (k .sheet) m sys vec mem ≡ triedOf (reportOf (convergenceOf (solution (length vec) m) (before (c .first) vec) (k .nodes) (k .options))) m (solution (length vec) m) mem
+  unfolding finished
+  without-diodes m none = rw (no-diodes (k .options) (k .sheet) (length vec) vec m mem none)
+
+  -- what a pass from the matrix m on leaves for the next
+  pub leaves : (linear hold : Bool) (r : Report) (m kept s v y : List Float) → (linear ≡ true → hasDiodes (k .sheet) ≡ false) → length vec ≡ k .order → drivenOf 0 m ≡ linearAt k c acc → (hold ≡ true → kept ≡ m)
+      → triedOf r s v y ≡ finished (k .options) (k .nodes) (c .first) (k .sheet) m sys vec mem → Holds k linear hold c acc kept s v
+  leaves linear hold r m kept s v y none l d p e =
+      record {
+        whole = λ h.
+            let q = e ∙ without-diodes m (none h) in
+            let s≡ : s ≡ m = ap (λ (t : Tried). t .system) q in
+            (rw s≡ (sym d), rw (s≡, ← l) (ap (λ (t : Tried). t .vector) q));
+        part = λ h. rw (p h) (sym d);
+      }
+
+-- the diodes, and what follows them, from their calls
+module _ (o : Options) (nodes : ℕ) (first : Bool) (sheet : List ℕ) (m sys vec mem : List Float) (code : ℕ) (m′ y : List Float) (e : stampedOf code m′ y ≡ diodesOf o sheet (length vec) vec m mem) where
+  pub finish-failed : (code ≡ 0 → ⊥) → triedOf (failureOf code) sys vec y ≡ finished o nodes first sheet m sys vec mem
+  unfolding finished failureOf
+  finish-failed z = rw (← e, ne-eqb _ _ z, ne-eqb _ _ z)
+
+  pub finish-solved : code ≡ 0 → (r : Report) (s v : List Float) → s ≡ m′ → renewedOf r v ≡ renewed o nodes first m′ vec → triedOf r s v y ≡ finished o nodes first sheet m sys vec mem
+  unfolding finished renewed
+  finish-solved z r s v p q = rw (← e, z, p) (ap (λ (x : Renewed). triedOf (x .report) m′ (x .vector) y) q)
 
 -- ---- a pass, from what was tried, what the counters became, and what was written
 

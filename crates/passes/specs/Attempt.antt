@@ -8,6 +8,7 @@ use lib.ListN.{length}
 use lib.Ieee.{Float}
 use Rattle.options.specs.declared.Options.{Options}
 use Rattle.groups.specs.declared.Pass.{Pass}
+use Rattle.groups.specs.Diodes.{Stamped}
 use Rattle.groups.specs.Stamping.{stampOf}
 use Rattle.solve.specs.Solve.{solution}
 use Rattle.solve.specs.Laws.{solution-length}
@@ -33,14 +34,18 @@ circuitOf o nodes n sheet points base = record { options = o; nodes = nodes; ord
 abbrev pub passOf : ℕ → ℕ → Counters → Pass
 passOf nodes n c = record { nodes = nodes; order = n; transient = not (eqb (c .phase) dcPhase); time = c .time; step = c .step }
 
--- each pass is stamped over the base, from the accepted vector and its own previous one; where all is stamped, that is the system, and it is solved; a stamp that fails leaves the last system
--- and the last vector. A diode before the failing one has already taken its new voltage.
+-- what a pass that was stamped as t leaves: where all is stamped, that is the system, and it is solved; a stamp that fails leaves the last system and the last vector.
+-- A diode before the failing one has already taken its new voltage.
+abbrev pub solvedFrom : ℕ → Stamped → List Float → List Float → Solved
+solvedFrom n t system vector =
+    cond (eqb (t .code) 0)
+    (record { fault = 0; system = t .matrix; vector = solution n (t .matrix); memory = t .memory })
+    (record { fault = t .code; system = system; vector = vector; memory = t .memory })
+
+-- each pass is stamped over the base, from the accepted vector and its own previous one
 unfoldable pub attemptOf : Circuit → Attempt
 attemptOf k c accepted system vector memory =
-    let t = stampOf (k .options) (passOf (k .nodes) (k .order) c) (k .sheet) (k .points) (k .base) accepted vector memory (k .base) in
-    cond (eqb (t .code) 0)
-    (record { fault = 0; system = t .matrix; vector = solution (k .order) (t .matrix); memory = t .memory })
-    (record { fault = t .code; system = system; vector = vector; memory = t .memory })
+    solvedFrom (k .order) (stampOf (k .options) (passOf (k .nodes) (k .order) c) (k .sheet) (k .points) (k .base) accepted vector memory (k .base)) system vector
 
 -- N unknowns stay N
 pub steady : (k : Circuit) → Steady (k .order) (attemptOf k)

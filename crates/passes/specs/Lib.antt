@@ -1,3 +1,4 @@
 pub mod Sized
 pub mod Attempt
+pub mod Again
 pub mod Run

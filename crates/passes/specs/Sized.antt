@@ -23,7 +23,8 @@ unfoldable pub fits : ℕ → ℕ → ℕ → ℕ → ℕ → Bool
 fits n accepted base elimination system =
     leb 1 n && (leb n 48 && (eqb accepted n && (eqb base (n * (n + 1)) && (eqb elimination (n * (n + 1)) && eqb system (n * (n + 1))))))
 
-both : (a b : Bool) → (a && b) ≡ true → (a ≡ true) × (b ≡ true)
+-- the two parts of a test
+pub both : (a b : Bool) → (a && b) ≡ true → (a ≡ true) × (b ≡ true)
 both true b e = (refl, e)
 both false b e = absurd (let z : _≡_ {A = ℕ} 0 1 = cc in omega arith)
 

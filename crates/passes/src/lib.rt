@@ -1,32 +1,31 @@
-// One pass over the lent buffers, and the run of a budget: the machine of passes at the real stamping and solving.
-// A pass is stamped in the elimination matrix; when it is whole, it is copied to the system and eliminated.
+// The run of a budget over lent buffers: the machine of passes at the real stamping and solving.
+mod attempt;
+
 ghost use mathlib.Core.Path.{_≡_};
+ghost use mathlib.Core.Bool.{true, false};
 ghost use Prim.Native.Nat.{_+_, _*_, _≤_};
 ghost use lib.ListN.{length};
-ghost use Rattle.machine.specs.State.{stateOf, jobOf, triedOf};
-ghost use Rattle.machine.specs.Machine.{tried, dcPass, stepPass, pass as passOf, runFor};
+ghost use Rattle.groups.specs.Diodes.{hasDiodes};
+ghost use Rattle.steps.specs.Counters.{going as goingOf};
+ghost use Rattle.machine.specs.State.{stateOf, jobOf};
+ghost use Rattle.machine.specs.Machine.{dcPass, stepPass, pass as passOf, runFor};
 ghost use Rattle.passes.specs.Sized.{Sized, fits as fitsOf};
 ghost use Rattle.passes.specs.Attempt.{circuitOf, attemptOf};
-ghost use Rattle.passes.specs.Run.{ranOf, renewed, renewedOf};
-use convergence::convergence_check;
-use groups::Pass;
-use groups::stamp_pass;
+ghost use Rattle.passes.specs.Again.{alike as alikeOf, Usable, Holds};
+ghost use Rattle.passes.specs.Run.{ranOf};
+use attempt::attempt;
+use groups::diodes::has_diodes;
 use loops::cells;
-use loops::clear_if;
 use loops::copy;
 use machine::accepts;
 use machine::landed;
 use machine::write;
 use options::Options;
-use solve::solve;
 use steps::Counters;
 use steps::DC;
-use steps::DIODE;
-use steps::Report;
 use steps::TRANSIENT;
 use steps::dc_after;
 use steps::going;
-use steps::report_of;
 use steps::step_after;
 
 // At most `budget` passes from the counters c on, and the counters after them. Nothing happens where the lengths do not fit: N, the vector's, is 1 to 48,
@@ -56,7 +55,7 @@ pub fn run(
         elimination.len(),
         system.len(),
     ) {
-        return turns(
+        return run_fitting(
             o,
             nodes,
             transient,
@@ -99,8 +98,8 @@ fn fits(n: usize, accepted: usize, base: usize, elimination: usize, system: usiz
     system == size
 }
 
-// At most `budget` passes.
-fn turns(
+// At most `budget` passes. What is stamped before the diodes is held for the passes of a step, in a transient with diodes: DC has little of it, and without diodes the system is all.
+fn run_fitting(
     o: Options,
     nodes: usize,
     transient: bool,
@@ -119,8 +118,86 @@ fn turns(
     requires { ⌜ Sized (length (now vector)) (length (now accepted)) (length (now base)) (length (now elimination)) (length (now system)) ⌝ }
     ensures { λ r. ⌜ stateOf r (now (accepted .exit)) (now (system .exit)) (now (vector .exit)) (now (memory .exit)) (now (rows .exit)) ≡ runFor (attemptOf (circuitOf o nodes (length (now (vector .entry))) (now (sheet .entry)) (now (points .entry)) (now (base .entry)))) (jobOf o nodes transient) budget (stateOf c (now (accepted .entry)) (now (system .entry)) (now (vector .entry)) (now (memory .entry)) (now (rows .entry))) ⌝ }
 {
+    let linear = !has_diodes(sheet);
+    if linear | !transient {
+        let mut none = cells();
+        return turns(
+            o,
+            nodes,
+            transient,
+            c,
+            linear,
+            false,
+            budget,
+            sheet,
+            points,
+            base,
+            accepted,
+            &mut none[..0],
+            elimination,
+            system,
+            vector,
+            memory,
+            rows,
+        );
+    }
+    let n = base.len();
+    let mut kept = matrix();
+    turns(
+        o,
+        nodes,
+        transient,
+        c,
+        false,
+        true,
+        budget,
+        sheet,
+        points,
+        base,
+        accepted,
+        &mut kept[..n],
+        elimination,
+        system,
+        vector,
+        memory,
+        rows,
+    )
+}
+
+// A matrix of the largest order, in zeros.
+fn matrix() -> [f64; 2352]
+    ensures { λ r. ⌜ length r ≡ 2352 ⌝ }
+{
+    [0.0; 2352]
+}
+
+// At most `budget` passes, with a matrix to hold what is stamped before the diodes, if `hold`.
+fn turns(
+    o: Options,
+    nodes: usize,
+    transient: bool,
+    c: Counters,
+    linear: bool,
+    hold: bool,
+    budget: u64,
+    sheet: &[u8],
+    points: &[u8],
+    base: &[f64],
+    accepted: &mut [f64],
+    kept: &mut [f64],
+    elimination: &mut [f64],
+    system: &mut [f64],
+    vector: &mut [f64],
+    memory: &mut [f64],
+    rows: &mut [f64],
+) -> Counters
+    requires sized { ⌜ Sized (length (now vector)) (length (now accepted)) (length (now base)) (length (now elimination)) (length (now system)) ⌝ }
+    requires usable { ⌜ (linear ≡ true → hasDiodes (now sheet) ≡ false) × (hold ≡ true → length (now kept) ≡ length (now base)) ⌝ }
+    ensures { λ r. ⌜ stateOf r (now (accepted .exit)) (now (system .exit)) (now (vector .exit)) (now (memory .exit)) (now (rows .exit)) ≡ runFor (attemptOf (circuitOf o nodes (length (now (vector .entry))) (now (sheet .entry)) (now (points .entry)) (now (base .entry)))) (jobOf o nodes transient) budget (stateOf c (now (accepted .entry)) (now (system .entry)) (now (vector .entry)) (now (memory .entry)) (now (rows .entry))) ⌝ }
+{
     let mut s = c;
     let mut left = budget;
+    let mut known = false;
     while left > 0 {
         if !going(s) {
             return s;
@@ -130,19 +207,34 @@ fn turns(
             nodes,
             transient,
             s,
+            linear,
+            hold,
+            known & alike(s),
             sheet,
             points,
             base,
             accepted,
+            kept,
             elimination,
             system,
             vector,
             memory,
             rows,
         );
+        known = true;
         left -= 1;
     }
     s
+}
+
+// Whether a pass is stamped as the one before it: it is not the first of DC or of its step, nor the first after a cut.
+fn alike(c: Counters) -> bool
+    ensures { λ r. ⌜ r ≡ alikeOf c ⌝ }
+{
+    if c.first {
+        return false;
+    }
+    c.count != 0
 }
 
 // One pass, of DC or of the transient; an ended run stays as it is.
@@ -151,18 +243,24 @@ fn pass(
     nodes: usize,
     transient: bool,
     c: Counters,
+    linear: bool,
+    hold: bool,
+    again: bool,
     sheet: &[u8],
     points: &[u8],
     base: &[f64],
     accepted: &mut [f64],
+    kept: &mut [f64],
     elimination: &mut [f64],
     system: &mut [f64],
     vector: &mut [f64],
     memory: &mut [f64],
     rows: &mut [f64],
 ) -> Counters
-    requires { ⌜ Sized (length (now vector)) (length (now accepted)) (length (now base)) (length (now elimination)) (length (now system)) ⌝ }
-    ensures { λ r. ⌜ stateOf r (now (accepted .exit)) (now (system .exit)) (now (vector .exit)) (now (memory .exit)) (now (rows .exit)) ≡ passOf (attemptOf (circuitOf o nodes (length (now (vector .entry))) (now (sheet .entry)) (now (points .entry)) (now (base .entry)))) (jobOf o nodes transient) (stateOf c (now (accepted .entry)) (now (system .entry)) (now (vector .entry)) (now (memory .entry)) (now (rows .entry))) ⌝ }
+    requires sized { ⌜ Sized (length (now vector)) (length (now accepted)) (length (now base)) (length (now elimination)) (length (now system)) ⌝ }
+    requires usable { ⌜ Usable (circuitOf o nodes (length (now vector)) (now sheet) (now points) (now base)) linear hold again c (now accepted) (now kept) (now system) (now vector) ⌝ }
+    ensures all { λ r. ⌜ stateOf r (now (accepted .exit)) (now (system .exit)) (now (vector .exit)) (now (memory .exit)) (now (rows .exit)) ≡ passOf (attemptOf (circuitOf o nodes (length (now (vector .entry))) (now (sheet .entry)) (now (points .entry)) (now (base .entry)))) (jobOf o nodes transient) (stateOf c (now (accepted .entry)) (now (system .entry)) (now (vector .entry)) (now (memory .entry)) (now (rows .entry))) ⌝ }
+    ensures next { λ r. ⌜ (goingOf r ≡ true → alikeOf r ≡ true → Holds (circuitOf o nodes (length (now (vector .entry))) (now (sheet .entry)) (now (points .entry)) (now (base .entry))) linear hold r (now (accepted .exit)) (now (kept .exit)) (now (system .exit)) (now (vector .exit))) ⌝ }
 {
     if c.phase == DC {
         return dc_pass(
@@ -170,10 +268,14 @@ fn pass(
             nodes,
             transient,
             c,
+            linear,
+            hold,
+            again,
             sheet,
             points,
             base,
             accepted,
+            kept,
             elimination,
             system,
             vector,
@@ -186,10 +288,14 @@ fn pass(
             o,
             nodes,
             c,
+            linear,
+            hold,
+            again,
             sheet,
             points,
             base,
             accepted,
+            kept,
             elimination,
             system,
             vector,
@@ -206,27 +312,37 @@ fn dc_pass(
     nodes: usize,
     transient: bool,
     c: Counters,
+    linear: bool,
+    hold: bool,
+    again: bool,
     sheet: &[u8],
     points: &[u8],
     base: &[f64],
     accepted: &[f64],
+    kept: &mut [f64],
     elimination: &mut [f64],
     system: &mut [f64],
     vector: &mut [f64],
     memory: &mut [f64],
     rows: &mut [f64],
 ) -> Counters
-    requires { ⌜ Sized (length (now vector)) (length (now accepted)) (length (now base)) (length (now elimination)) (length (now system)) ⌝ }
-    ensures { λ r. ⌜ stateOf r (now (accepted .entry)) (now (system .exit)) (now (vector .exit)) (now (memory .exit)) (now (rows .exit)) ≡ dcPass (attemptOf (circuitOf o nodes (length (now (vector .entry))) (now (sheet .entry)) (now (points .entry)) (now (base .entry)))) (jobOf o nodes transient) (stateOf c (now (accepted .entry)) (now (system .entry)) (now (vector .entry)) (now (memory .entry)) (now (rows .entry))) ⌝ }
+    requires sized { ⌜ Sized (length (now vector)) (length (now accepted)) (length (now base)) (length (now elimination)) (length (now system)) ⌝ }
+    requires usable { ⌜ Usable (circuitOf o nodes (length (now vector)) (now sheet) (now points) (now base)) linear hold again c (now accepted) (now kept) (now system) (now vector) ⌝ }
+    ensures all { λ r. ⌜ stateOf r (now (accepted .entry)) (now (system .exit)) (now (vector .exit)) (now (memory .exit)) (now (rows .exit)) ≡ dcPass (attemptOf (circuitOf o nodes (length (now (vector .entry))) (now (sheet .entry)) (now (points .entry)) (now (base .entry)))) (jobOf o nodes transient) (stateOf c (now (accepted .entry)) (now (system .entry)) (now (vector .entry)) (now (memory .entry)) (now (rows .entry))) ⌝ }
+    ensures next { λ r. ⌜ (goingOf r ≡ true → alikeOf r ≡ true → Holds (circuitOf o nodes (length (now (vector .entry))) (now (sheet .entry)) (now (points .entry)) (now (base .entry))) linear hold r (now (accepted .entry)) (now (kept .exit)) (now (system .exit)) (now (vector .exit))) ⌝ }
 {
     let r = attempt(
         o,
         nodes,
         c,
+        linear,
+        hold,
+        again,
         sheet,
         points,
         base,
         accepted,
+        kept,
         elimination,
         system,
         vector,
@@ -244,27 +360,37 @@ fn step_pass(
     o: Options,
     nodes: usize,
     c: Counters,
+    linear: bool,
+    hold: bool,
+    again: bool,
     sheet: &[u8],
     points: &[u8],
     base: &[f64],
     accepted: &mut [f64],
+    kept: &mut [f64],
     elimination: &mut [f64],
     system: &mut [f64],
     vector: &mut [f64],
     memory: &mut [f64],
     rows: &mut [f64],
 ) -> Counters
-    requires { ⌜ Sized (length (now vector)) (length (now accepted)) (length (now base)) (length (now elimination)) (length (now system)) ⌝ }
-    ensures { λ r. ⌜ stateOf r (now (accepted .exit)) (now (system .exit)) (now (vector .exit)) (now (memory .exit)) (now (rows .exit)) ≡ stepPass (attemptOf (circuitOf o nodes (length (now (vector .entry))) (now (sheet .entry)) (now (points .entry)) (now (base .entry)))) o nodes (stateOf c (now (accepted .entry)) (now (system .entry)) (now (vector .entry)) (now (memory .entry)) (now (rows .entry))) ⌝ }
+    requires sized { ⌜ Sized (length (now vector)) (length (now accepted)) (length (now base)) (length (now elimination)) (length (now system)) ⌝ }
+    requires usable { ⌜ Usable (circuitOf o nodes (length (now vector)) (now sheet) (now points) (now base)) linear hold again c (now accepted) (now kept) (now system) (now vector) ⌝ }
+    ensures all { λ r. ⌜ stateOf r (now (accepted .exit)) (now (system .exit)) (now (vector .exit)) (now (memory .exit)) (now (rows .exit)) ≡ stepPass (attemptOf (circuitOf o nodes (length (now (vector .entry))) (now (sheet .entry)) (now (points .entry)) (now (base .entry)))) o nodes (stateOf c (now (accepted .entry)) (now (system .entry)) (now (vector .entry)) (now (memory .entry)) (now (rows .entry))) ⌝ }
+    ensures next { λ r. ⌜ (goingOf r ≡ true → alikeOf r ≡ true → Holds (circuitOf o nodes (length (now (vector .entry))) (now (sheet .entry)) (now (points .entry)) (now (base .entry))) linear hold r (now (accepted .exit)) (now (kept .exit)) (now (system .exit)) (now (vector .exit))) ⌝ }
 {
     let r = attempt(
         o,
         nodes,
         c,
+        linear,
+        hold,
+        again,
         sheet,
         points,
         base,
         accepted,
+        kept,
         elimination,
         system,
         vector,
@@ -276,84 +402,4 @@ fn step_pass(
         return landed(o, d, vector, rows);
     }
     d
-}
-
-// Stamps and solves one pass, and reports on it.
-fn attempt(
-    o: Options,
-    nodes: usize,
-    c: Counters,
-    sheet: &[u8],
-    points: &[u8],
-    base: &[f64],
-    accepted: &[f64],
-    elimination: &mut [f64],
-    system: &mut [f64],
-    vector: &mut [f64],
-    memory: &mut [f64],
-) -> Report
-    requires { ⌜ Sized (length (now vector)) (length (now accepted)) (length (now base)) (length (now elimination)) (length (now system)) ⌝ }
-    ensures { λ r. ⌜ triedOf r (now (system .exit)) (now (vector .exit)) (now (memory .exit)) ≡ tried (attemptOf (circuitOf o nodes (length (now (vector .entry))) (now (sheet .entry)) (now (points .entry)) (now (base .entry)))) o nodes c (now (accepted .entry)) (now (system .entry)) (now (vector .entry)) (now (memory .entry)) ⌝ }
-{
-    let p = Pass {
-        nodes: nodes,
-        order: vector.len(),
-        transient: c.phase != DC,
-        time: c.time,
-        step: c.step,
-    };
-    let k = stamp_pass(
-        o,
-        p,
-        sheet,
-        points,
-        base,
-        accepted,
-        vector,
-        memory,
-        elimination,
-    );
-    if k == DIODE {
-        return Report::Diode;
-    }
-    if k != 0 {
-        return Report::Sine;
-    }
-    copy(elimination, system);
-    renew(o, nodes, c.first, elimination, vector)
-}
-
-// Solves the elimination matrix, compares, and leaves the new vector.
-fn renew(
-    o: Options,
-    nodes: usize,
-    first: bool,
-    elimination: &mut [f64],
-    vector: &mut [f64],
-) -> Report
-    requires { ⌜ (1 ≤ length (now vector)) × (length (now vector) ≤ 48) × (length (now elimination) ≡ length (now vector) * (length (now vector) + 1)) ⌝ }
-    ensures { λ r. ⌜ renewedOf r (now (vector .exit)) ≡ renewed o nodes first (now (elimination .entry)) (now (vector .entry)) ⌝ }
-{
-    let n = vector.len();
-    let mut x = cells();
-    renew_in(o, nodes, first, elimination, &mut x[..n], vector)
-}
-
-// The same, with x to solve into.
-fn renew_in(
-    o: Options,
-    nodes: usize,
-    first: bool,
-    elimination: &mut [f64],
-    x: &mut [f64],
-    vector: &mut [f64],
-) -> Report
-    requires { ⌜ (1 ≤ length (now vector)) × (length (now vector) ≤ 48) × (length (now elimination) ≡ length (now vector) * (length (now vector) + 1)) × (length (now x) ≡ length (now vector)) ⌝ }
-    ensures { λ r. ⌜ renewedOf r (now (vector .exit)) ≡ renewed o nodes first (now (elimination .entry)) (now (vector .entry)) ⌝ }
-{
-    solve(elimination, x, vector.len());
-    clear_if(vector, first);
-    let r = convergence_check(x, vector, nodes, o);
-    copy(x, vector);
-    report_of(r)
 }

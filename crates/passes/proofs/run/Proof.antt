@@ -1,3 +1,4 @@
+-- `passes::run` meets its contract: where the lengths fit, and where they do not. Assumes nothing.
 use mathlib.Core.Path.{_≡_, sym, _∙_}
 use Rattle.passes.specs.Sized.{sized}
 use Rattle.passes.specs.Run.{ranOf}
@@ -5,12 +6,12 @@ use borrow.Author.Needs.{needs}
 use Rattle.passes.proofs.run.Statement.{statement}
 use Rattle.passes.proofs.run.Tie as tie
 
-turns-requires : tie.Need-turns-requires
-turns-requires c κs = sized _ _ _ _ _ (sym (c .before .before .before .before .before .before .before .fits2 .ensures) ∙ c .before .before .before .before .before .before .if1 .taken)
+run-fitting-requires : tie.Need-run-fitting-requires
+run-fitting-requires c κs = sized _ _ _ _ _ (sym (c .before .before .before .before .before .before .before .fits2 .ensures) ∙ c .before .before .before .before .before .before .if1 .taken)
 
 returns : tie.Need-returns
 unfolding ranOf
-returns c = rw (sym (c .before .before .before .before .before .before .before .before .before .before .before .before .before .before .before .before .before .before .before .before .fits2 .ensures) ∙ c .before .before .before .before .before .before .before .before .before .before .before .before .before .before .before .before .before .before .before .if1 .taken) (c .before .before .before .before .before .before .before .before .before .before .before .before .turns .ensures)
+returns c = rw (sym (c .before .before .before .before .before .before .before .before .before .before .before .before .before .before .before .before .before .before .before .before .fits2 .ensures) ∙ c .before .before .before .before .before .before .before .before .before .before .before .before .before .before .before .before .before .before .before .if1 .taken) (c .before .before .before .before .before .before .before .before .before .before .before .before .run-fitting .ensures)
 
 returns-2 : tie.Need-returns-2
 unfolding ranOf
@@ -21,7 +22,7 @@ run-spec =
     tie.close
     (tie.spec
     (λ c κs. search needs)
-    turns-requires
+    run-fitting-requires
     (λ c. search needs)
     (λ c. search needs)
     (λ c. search needs)

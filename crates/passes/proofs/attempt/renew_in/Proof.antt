@@ -1,8 +1,8 @@
 use mathlib.Core.Path.{_≡_, refl}
 use Rattle.passes.proofs.Joins.{renews}
 use borrow.Author.Needs.{needs}
-use Rattle.passes.proofs.renew_in.Statement.{statement}
-use Rattle.passes.proofs.renew_in.Tie as tie
+use Rattle.passes.proofs.attempt.renew_in.Statement.{statement}
+use Rattle.passes.proofs.attempt.renew_in.Tie as tie
 
 returns : tie.Need-returns
 returns c =

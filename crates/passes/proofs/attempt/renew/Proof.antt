@@ -6,8 +6,8 @@ use lib.Seq.{length-take-le}
 use lib.Ieee.{Float}
 use native.Mathlib.Omega.{arith}
 use borrow.Author.Needs.{needs}
-use Rattle.passes.proofs.renew.Statement.{statement}
-use Rattle.passes.proofs.renew.Tie as tie
+use Rattle.passes.proofs.attempt.renew.Statement.{statement}
+use Rattle.passes.proofs.attempt.renew.Tie as tie
 
 -- a part of 48 numbers
 part : (a : List Float) (n : ℕ) → n ≤ 48 → length a ≡ 48 → length (take n a) ≡ n

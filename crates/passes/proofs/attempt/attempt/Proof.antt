@@ -1,0 +1,80 @@
+-- `passes::attempt::attempt` meets its contract: the pass before again, or a pass of its own. Assumes nothing.
+use Prim.Native.Nat.{ℕ}
+use mathlib.Core.Path.{_≡_, refl, sym, ap, _∙_}
+use mathlib.Core.Bool.{Bool, true, false, cond, false≢true}
+use mathlib.Core.List.{List}
+use lib.Dec.{eqb}
+use lib.Ieee.{Float}
+use Rattle.groups.specs.Sources.{drivenOf}
+use Rattle.steps.specs.declared.Report.{Report}
+use Rattle.steps.specs.declared.Report.the-variants.{Diode, Sine}
+use Rattle.steps.specs.Verdicts.{diode}
+use Rattle.steps.specs.Laws.{solved}
+use Rattle.machine.specs.State.{triedOf}
+use Rattle.passes.specs.Sized.{both}
+use Rattle.passes.specs.Again.{failureOf}
+use Rattle.passes.proofs.Joins.{whole-code, unstamped, stamped-first, repeated, leaves}
+use borrow.Author.Needs.{needs}
+use Rattle.passes.proofs.attempt.attempt.Statement.{statement}
+use Rattle.passes.proofs.attempt.attempt.Tie as tie
+
+unsolved : (k : ℕ) (r : Report) → r ≡ failureOf k → solved r ≡ true → ⊥
+unfolding failureOf
+unsolved k r e s = go (eqb k diode) (ap solved (sym e) ∙ s)
+  where
+    go : (b : Bool) → solved (cond b Diode Sine) ≡ true → ⊥
+    go true h = false≢true h
+    go false h = false≢true h
+
+returns : tie.Need-returns
+returns c =
+    let u = c .before .before .before .before .before .before .before .before .before .before .before .before .pre .1 in
+    let b = both (c .before .before .before .before .before .before .before .before .before .before .before .before .args .linear) _ (c .before .before .if1 .taken) in
+    let h = u .holds (b .1) in
+    (rw (c .compare .ensures) (repeated _ _ _ _ _ _ (u .none (b .0)) (h .whole (b .0) .0) (h .whole (b .0) .1) (u .later (b .1))), λ _. h)
+
+stamp-first-requires : tie.Need-stamp-first-requires
+stamp-first-requires c κs =
+    let z = c .before .before .before .before .before .before .before .before .before .before .before .before .before .pre in
+    (z .0 .works ∙ sym (z .0 .bases), (z .1 .long, λ h a. z .1 .holds a .part h))
+
+returns-2 : tie.Need-returns-2
+returns-2 c =
+    let t = c .before .before .before .before .before .before .stamp-first in
+    (rw (c .failure .ensures) (unstamped _ _ _ _ _ _ _ _ (t .ensures .0) (c .before .if2 .taken)), λ s. absurd (unsolved _ _ (c .failure .ensures) s))
+
+finish-requires : tie.Need-finish-requires
+finish-requires c κs =
+    let z = c .before .before .before .before .before .before .before .before .before .before .before .before .before .before .before .before .before .before .before .before .before .before .before .pre .0 in
+    let l = c .before .before .before .before .before .before .before .before .before .stamp-first .kept .1 .1 .1 .1 .1 .1 .1 .1 .0 ∙ z .works in
+    (z .some, z .small, l, z .systems ∙ sym l)
+
+returns-3 : tie.Need-returns-3
+returns-3 c =
+    let u = c .before .before .before .before .before .before .before .before .before .before .before .before .before .before .before .before .before .before .before .before .before .before .before .before .before .before .before .before .before .before .before .before .pre .1 in
+    let t = c .before .before .before .before .before .before .before .before .before .before .before .before .before .before .before .before .before .before .stamp-first in
+    let a = c .before .before .before .before .before .before .before .before .before .before .before .before .before .before .before .before .before .before .before .before .before .before .before .before .before .before .before .before .before .before .before .before .args in
+    let k = c .before .before .before .before .before .before .before .before .before .before .before .before .before .if2 .left in
+    let e = whole-code _ _ _ k (t .ensures .0) in
+    let f = c .before .before .before .before .before .before .before .before .finish .ensures in
+    (f ∙ stamped-first _ _ _ _ _ _ _ e refl, λ _. leaves _ _ _ (a .system .now) (a .vector .now) (a .memory .now) _ _ _ _ _ _ _ _ (u .none) refl e (λ h. t .ensures .1 h k) f)
+
+pub attempt-spec : {M : Type 1} → statement M
+attempt-spec =
+    tie.close
+    (tie.spec
+    (λ c κs. search needs)
+    (λ c. search needs)
+    returns
+    stamp-first-requires
+    (λ c κs. search needs)
+    (λ c. search needs)
+    (λ c. search needs)
+    returns-2
+    finish-requires
+    (λ c. search needs)
+    (λ c. search needs)
+    (λ c. search needs)
+    (λ c. search needs)
+    (λ c. search needs)
+    returns-3)
