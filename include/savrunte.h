@@ -29,7 +29,8 @@ enum savrunte_refusal {
     SAVRUNTE_REFUSED_SOURCE = 9,    /* a source number is not below the source count */
     SAVRUNTE_REFUSED_RANGE = 10,    /* first point plus count is above the points given */
     SAVRUNTE_REFUSED_NUMBER = 11,   /* judge: a number not finite, or a tolerance below zero */
-    SAVRUNTE_REFUSED_SINE = 12      /* sin: finite and beyond 2^20 in size */
+    SAVRUNTE_REFUSED_SINE = 12,     /* sin: finite and beyond 2^20 in size */
+    SAVRUNTE_REFUSED_JOBS = 13      /* spreads: no job, more than 256, or an unknown that is not below N; checked before 1 */
 };
 
 enum savrunte_verdict {
@@ -65,6 +66,13 @@ typedef struct savrunte_transient_answer {
     uint64_t rows;       /* rows written */
     double end;          /* the time reached */
 } savrunte_transient_answer;
+
+typedef struct savrunte_spreads_answer {
+    uint64_t refusal;                  /* 0, or 13, or 1 to 5; on a refusal every other field is 0 and nothing lent is changed */
+    uint64_t settled;                  /* runs with verdict 0 */
+    double smallest, largest;          /* of the chosen unknown over the settled runs; 0.0 where none settled */
+    uint64_t smallest_at, largest_at;  /* the jobs where they stand, the earliest on a tie; 0 where none settled */
+} savrunte_spreads_answer;
 
 typedef struct savrunte_convergence_answer {
     uint64_t refusal; /* 0, or 5 when y is shorter than x */
@@ -117,6 +125,31 @@ savrunte_transient_answer savrunte_transient(
     double *vector, size_t vector_len,
     double *memory, size_t memory_len,
     double *rows, size_t rows_len);
+
+/* All spreads in one call: up to 256 DC jobs with the same counts, points, options and budget each, their sheets end to end.
+ * Each job is what savrunte_dc makes of its own sheet with fresh diode memory. Refusals in order: 13; 1; 2 (sheets_len not a
+ * multiple of jobs * 40, or more than 256 records a sheet; empty sheets are allowed); 3; 4; 5 (any lent buffer too short).
+ * A job refused by 6 to 10 is counted under its number, with 0 passes and a zero vector, and stops nothing. The counts over
+ * all numbers add up to jobs. Nothing past the lengths named changes. */
+savrunte_spreads_answer savrunte_spreads(
+    const uint8_t *sheets, size_t sheets_len,      /* the jobs' sheets end to end, all of one length */
+    const uint8_t *points, size_t points_len,
+    size_t jobs, size_t nodes, size_t sources, size_t unknown, savrunte_options options,   /* unknown: the chosen one, 0 to N - 1 */
+    double *base, size_t base_len,                 /* scratch: N(N+1) */
+    double *system, size_t system_len,             /* scratch: N(N+1) */
+    double *elimination, size_t elimination_len,   /* scratch: N(N+1) */
+    double *memory, size_t memory_len,             /* scratch: one float for each record of one sheet */
+    double *vectors, size_t vectors_len,           /* N floats for each job, zeros where it is refused */
+    uint64_t *numbers, size_t numbers_len,         /* one word for each job: its verdict, or its refusal 6 to 10 */
+    uint64_t *places, size_t places_len,           /* one word for each job: the place of the faulty record, 0 where none */
+    uint64_t *passes, size_t passes_len,           /* one word for each job: passes solved to the end, 0 where refused */
+    uint64_t *counts, size_t counts_len,           /* 27 words: counts[k] is how many jobs have the number k */
+    uint64_t *plus, size_t plus_len,               /* 66 limbs: with minus, the exact sum of the chosen unknown over the settled */
+    uint64_t *minus, size_t minus_len);            /* 66 limbs: runs, in units of 2^-2148, as the judge keeps sums */
+
+/* The mean of such a sum: plus less minus over the count, rounded once to the nearest float. 0.0 for a sum of 0, for a count of 0
+ * or from 2^32 on, and for rows that are not 66 limbs. */
+double savrunte_mean(const uint64_t *plus, size_t plus_len, const uint64_t *minus, size_t minus_len, uint64_t count);
 
 /* ---- parts of a run ---- */
 

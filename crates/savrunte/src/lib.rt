@@ -10,12 +10,15 @@ ghost use Rattle.engine.specs.Engine.{sizesOf, runOf, Scratched};
 ghost use Rattle.functions.specs.Exp.{expOf};
 ghost use Rattle.functions.specs.Ln.{lnOf};
 ghost use Rattle.functions.specs.Sin.{sinOf};
+ghost use Rattle.mean.specs.Mean.{meanOf};
 ghost use Rattle.models.specs.Capacitor.{companionOf};
 ghost use Rattle.models.specs.Diode.{linearized};
 ghost use Rattle.models.specs.Vpwl.{patternAt, pointsFrom};
 ghost use Rattle.judge.specs.Judge.{judgeOf};
 ghost use Rattle.solve.specs.Solve.{solveOf, solvedAs};
+ghost use Rattle.spreads.specs.Spreads.{lentOf, spreadsOf, Scratched as SpreadsScratched};
 ghost use Rattle.savrunte.specs.Runs.{dcAnswer, transientAnswer, dcOf, dcResult, transientOf, transientResult};
+ghost use Rattle.savrunte.specs.Spreads.{spreadsAnswer, doorOf, doorResult};
 ghost use Rattle.savrunte.specs.Answers.{sinAnswer, convergenceAnswer, judgeAnswer, companion, diodeAnswer};
 use convergence::Convergence;
 use engine::Outcome;
@@ -23,6 +26,7 @@ use functions::Sine;
 use judge::Judged;
 use models::diode::Linear;
 use options::Options;
+use spreads::Spread;
 
 #[repr(C)]
 pub struct SinAnswer {
@@ -73,6 +77,16 @@ pub struct TransientAnswer {
     pub passes: u64,
     pub rows: u64,
     pub end: f64,
+}
+
+#[repr(C)]
+pub struct SpreadsAnswer {
+    pub refusal: u64,
+    pub settled: u64,
+    pub smallest: f64,
+    pub largest: f64,
+    pub smallest_at: u64,
+    pub largest_at: u64,
 }
 
 #[no_mangle]
@@ -137,6 +151,60 @@ pub extern "C" fn savrunte_transient(
         rows,
     );
     transient_answer(r)
+}
+
+#[no_mangle]
+pub extern "C" fn savrunte_spreads(
+    sheets: &[u8],
+    points: &[u8],
+    jobs: usize,
+    nodes: usize,
+    sources: usize,
+    unknown: usize,
+    options: Options,
+    base: &mut [f64],
+    system: &mut [f64],
+    elimination: &mut [f64],
+    memory: &mut [f64],
+    vectors: &mut [f64],
+    numbers: &mut [u64],
+    places: &mut [u64],
+    passes: &mut [u64],
+    counts: &mut [u64],
+    plus: &mut [u64],
+    minus: &mut [u64],
+) -> SpreadsAnswer
+    ensures all { λ r. ⌜ doorOf r (now (vectors .exit)) (now (numbers .exit)) (now (places .exit)) (now (passes .exit)) (now (counts .exit)) (now (plus .exit)) (now (minus .exit)) ≡ doorResult (spreadsOf options (lentOf jobs nodes sources unknown (now (sheets .entry)) (now (points .entry)) (now (base .entry)) (now (system .entry)) (now (elimination .entry)) (now (memory .entry)) (now (vectors .entry)) (now (numbers .entry)) (now (places .entry)) (now (passes .entry)) (now (counts .entry)) (now (plus .entry)) (now (minus .entry))) (now (sheets .entry)) (now (points .entry)) (now (vectors .entry)) (now (numbers .entry)) (now (places .entry)) (now (passes .entry)) (now (counts .entry)) (now (plus .entry)) (now (minus .entry))) ⌝ }
+    ensures scratch { λ r. ⌜ SpreadsScratched options (lentOf jobs nodes sources unknown (now (sheets .entry)) (now (points .entry)) (now (base .entry)) (now (system .entry)) (now (elimination .entry)) (now (memory .entry)) (now (vectors .entry)) (now (numbers .entry)) (now (places .entry)) (now (passes .entry)) (now (counts .entry)) (now (plus .entry)) (now (minus .entry))) (now (base .entry)) (now (system .entry)) (now (elimination .entry)) (now (memory .entry)) (now (base .exit)) (now (system .exit)) (now (elimination .exit)) (now (memory .exit)) ⌝ }
+{
+    let r = spreads::spreads(
+        sheets,
+        points,
+        jobs,
+        nodes,
+        sources,
+        unknown,
+        options,
+        base,
+        system,
+        elimination,
+        memory,
+        vectors,
+        numbers,
+        places,
+        passes,
+        counts,
+        plus,
+        minus,
+    );
+    spreads_answer(r)
+}
+
+#[no_mangle]
+pub extern "C" fn savrunte_mean(plus: &[u64], minus: &[u64], count: u64) -> f64
+    ensures { λ r. ⌜ r ≡ meanOf (now (plus .entry)) (now (minus .entry)) count ⌝ }
+{
+    mean::mean(plus, minus, count)
 }
 
 #[no_mangle]
@@ -316,6 +384,29 @@ fn transient_answer(r: Outcome) -> TransientAnswer
             passes: e.passes,
             rows: e.rows,
             end: e.end,
+        },
+    }
+}
+
+fn spreads_answer(r: Spread) -> SpreadsAnswer
+    ensures { λ a. ⌜ a ≡ spreadsAnswer r ⌝ }
+{
+    match r {
+        Spread::Refused(k) => SpreadsAnswer {
+            refusal: k as u64,
+            settled: 0,
+            smallest: 0.0,
+            largest: 0.0,
+            smallest_at: 0,
+            largest_at: 0,
+        },
+        Spread::Done(e) => SpreadsAnswer {
+            refusal: 0,
+            settled: e.settled,
+            smallest: e.smallest,
+            largest: e.largest,
+            smallest_at: e.smallest_at,
+            largest_at: e.largest_at,
         },
     }
 }

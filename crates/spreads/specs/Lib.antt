@@ -1,0 +1,10 @@
+pub mod Each
+pub mod Single
+pub mod Settled
+pub mod Runs
+pub mod Refusals
+pub mod Tally
+pub mod Spreads
+pub mod Less
+pub mod Report
+pub mod Promises

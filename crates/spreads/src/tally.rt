@@ -1,0 +1,160 @@
+// The report over the jobs' numbers and vectors: how many have each number, and over the settled ones the exact sum, the smallest and the largest of the chosen unknown.
+use super::Report;
+use super::refusals::NUMBERS;
+ghost use mathlib.Core.Path.{_≡_};
+ghost use mathlib.Core.Bool.{cond};
+ghost use mathlib.Core.List.{_++_};
+ghost use Prim.Native.Nat.{_+_, _-_, _^_, _≤_, _<_};
+ghost use lib.Dec.{eqb};
+ghost use lib.ListN.{length, drop};
+ghost use Rattle.exact.specs.Limbs.{limbsOf};
+ghost use Rattle.spreads.specs.Each.{each};
+ghost use Rattle.spreads.specs.Tally.{none, numberIn, valueIn, howMany, lower as lowerOf, upper as upperOf, withJob, taken, stepOf, reportOf, sumOf, Readable};
+
+// A value, and the job where it stands.
+pub struct Peak {
+    pub value: f64,
+    pub at: u64,
+}
+
+// Puts down for each number from 0 to 26 how many of the first `jobs` have it.
+pub fn count_all(numbers: &[u64], jobs: usize, counts: &mut [u64])
+    requires { ⌜ (jobs ≤ length (now numbers)) × (27 ≤ length (now counts)) ⌝ }
+    ensures { λ _. ⌜ now (counts .exit) ≡ each (howMany (numberIn (now (numbers .entry))) jobs) 27 ++ drop 27 (now (counts .entry)) ⌝ }
+{
+    for k in 0..NUMBERS {
+        counts[k] = count(numbers, jobs, k as u64);
+    }
+}
+
+// How many of the first `jobs` numbers are k.
+fn count(numbers: &[u64], jobs: usize, k: u64) -> u64
+    requires { ⌜ jobs ≤ length (now numbers) ⌝ }
+    ensures { λ r. ⌜ r ≡ howMany (numberIn (now (numbers .entry))) jobs k ⌝ }
+{
+    let mut c = 0;
+    for j in 0..jobs {
+        c = one_more(c, numbers[j] == k);
+    }
+    c
+}
+
+// One more, where it is the same number.
+fn one_more(c: u64, same: bool) -> u64
+    requires { ⌜ c < 2 ^ 64 - 1 ⌝ }
+    ensures { λ r. ⌜ r ≡ cond same (c + 1) c ⌝ }
+{
+    if same {
+        return c + 1;
+    }
+    c
+}
+
+// Makes `plus` less `minus` the exact sum of the chosen unknown over the settled jobs, and answers the report.
+pub fn sum_up(
+    numbers: &[u64],
+    vectors: &[f64],
+    jobs: usize,
+    n: usize,
+    unknown: usize,
+    plus: &mut [u64],
+    minus: &mut [u64],
+) -> Report
+    requires { ⌜ Readable jobs n unknown (now numbers) (now vectors) × (length (now plus) ≡ 66) × (length (now minus) ≡ 66) ⌝ }
+    ensures { λ r. ⌜ stepOf r (now (plus .exit)) (now (minus .exit)) ≡ stepOf (reportOf (numberIn (now (numbers .entry))) (valueIn n unknown (now (vectors .entry))) jobs) (limbsOf 66 (sumOf (numberIn (now (numbers .entry))) (valueIn n unknown (now (vectors .entry))) jobs .plus)) (limbsOf 66 (sumOf (numberIn (now (numbers .entry))) (valueIn n unknown (now (vectors .entry))) jobs .minus)) ⌝ }
+{
+    exact::clear(plus);
+    exact::clear(minus);
+    let mut r = nothing();
+    for j in 0..jobs {
+        let at = j * n + unknown;
+        r = take_in(r, numbers[j], j as u64, vectors[at], plus, minus);
+    }
+    r
+}
+
+// The report over no job.
+fn nothing() -> Report
+    ensures { λ r. ⌜ r ≡ none ⌝ }
+{
+    Report {
+        settled: 0,
+        smallest: 0.0,
+        largest: 0.0,
+        smallest_at: 0,
+        largest_at: 0,
+    }
+}
+
+// Takes in job j with the value x, where its number says that it settled.
+fn take_in(r: Report, number: u64, j: u64, x: f64, plus: &mut [u64], minus: &mut [u64]) -> Report
+    requires { ⌜ r .settled < 256 ⌝ }
+    ensures { λ a. ⌜ stepOf a (now (plus .exit)) (now (minus .exit)) ≡ taken (eqb number 0) j x r (now (plus .entry)) (now (minus .entry)) ⌝ }
+{
+    if number != 0 {
+        return r;
+    }
+    exact::keep(plus, minus, x);
+    with_job(r, j, x)
+}
+
+// The report with one settled job more.
+fn with_job(r: Report, j: u64, x: f64) -> Report
+    requires { ⌜ r .settled < 256 ⌝ }
+    ensures { λ a. ⌜ a ≡ withJob j x r ⌝ }
+{
+    if r.settled == 0 {
+        return Report {
+            settled: 1,
+            smallest: x,
+            largest: x,
+            smallest_at: j,
+            largest_at: j,
+        };
+    }
+    let low = lower(
+        Peak {
+            value: r.smallest,
+            at: r.smallest_at,
+        },
+        j,
+        x,
+    );
+    let high = upper(
+        Peak {
+            value: r.largest,
+            at: r.largest_at,
+        },
+        j,
+        x,
+    );
+    Report {
+        settled: r.settled + 1,
+        smallest: low.value,
+        largest: high.value,
+        smallest_at: low.at,
+        largest_at: high.at,
+    }
+}
+
+// Job j where it is below what stands; on a tie the earlier stays.
+fn lower(p: Peak, j: u64, x: f64) -> Peak
+    ensures { λ r. ⌜ r ≡ lowerOf j x p ⌝ }
+{
+    if x < p.value {
+        Peak { value: x, at: j }
+    } else {
+        p
+    }
+}
+
+// Job j where it is above what stands; on a tie the earlier stays.
+fn upper(p: Peak, j: u64, x: f64) -> Peak
+    ensures { λ r. ⌜ r ≡ upperOf j x p ⌝ }
+{
+    if p.value < x {
+        Peak { value: x, at: j }
+    } else {
+        p
+    }
+}
