@@ -1,14 +1,18 @@
 #!/usr/bin/env python3
 """A detector amplifier's front end as numbers: writes examples/front_end.jobs, which ./savrunte runs (docs/FORMATS.md).
 
-Nodes: 0 ground, 1 the detector's pulse, 2 the input behind its resistor with a clamp diode and its capacitance,
-3 the first stage (a transconductance into a load), 4 a buffer, 5 the shaped output with a second clamp.
-Sources: 0 the pulse, 1 the buffer. Job 0 is the DC operating point, judged with a tolerance for each row; job 1 is the transient.
+A photodiode at zero bias feeds a transimpedance amplifier; a coupling capacitor and a second stage shape its pulse.
+
+Nodes: 0 ground, 1 the 5 V supply, 2 the light on the detector, 3 the bias string's top and 4 its middle, 5 the reference,
+6 the summing node, 7 inside the amplifier, 8 its output, 9 behind the coupling capacitor, 10 the second stage, 11 the output.
+Sources: 0 the supply, 1 the light, 2 the reference's buffer, 3 the amplifier's buffer.
+
+Jobs: 0 the DC operating point and 1 the transient, both judged; 2 is DC with too few passes, 3 has a record with a node that is not there.
 """
 import os
 import struct
 
-NODES, SOURCES = 6, 2
+NODES, SOURCES, OUTPUT = 12, 4, 11
 N = NODES + SOURCES
 
 
@@ -18,46 +22,87 @@ def record(kind, p, n, controls=(0, 0), source=0, points=(0, 0), floats=()):
 
 
 def resistor(p, n, ohm): return record(1, p, n, floats=[ohm])
+def current(p, n, ampere): return record(2, p, n, floats=[ampere])
+def voltage(p, n, source, volt): return record(3, p, n, source=source, floats=[volt])
 def diode(p, n, i_sat, celsius): return record(4, p, n, floats=[i_sat, celsius])
+def sine_current(p, n, offset, amplitude, hertz): return record(5, p, n, floats=[offset, amplitude, hertz])
 def pattern(p, n, source, first, count, delay, repeat): return record(7, p, n, source=source, points=(first, count), floats=[delay, repeat])
 def capacitor(p, n, farad): return record(8, p, n, floats=[farad])
-def vcvs(p, n, cp, cn, source, k): return record(9, p, n, controls=(cp, cn), source=source, floats=[k])
-def vccs(p, n, cp, cn, k): return record(10, p, n, controls=(cp, cn), floats=[k])
+def vcvs(p, n, cp, cn, source, gain): return record(9, p, n, controls=(cp, cn), source=source, floats=[gain])
+def vccs(p, n, cp, cn, siemens): return record(10, p, n, controls=(cp, cn), floats=[siemens])
 
 
-# the pulse: quick rise, slow fall, then nothing
-POINTS = [(0.0, 0.0), (1e-7, 0.05), (4e-7, 0.02), (1e-6, 0.0), (1e-3, 0.0)]
-
-SHEET = [
-    pattern(1, 0, 0, 0, len(POINTS), 0.0, -1.0),
-    resistor(1, 2, 1000.0),
-    diode(2, 0, 1e-14, 27.0),
-    capacitor(2, 0, 1e-11),
-    vccs(3, 0, 2, 0, -0.002),
-    resistor(3, 0, 10000.0),
-    vcvs(4, 0, 3, 0, 1, 1.0),
-    resistor(4, 5, 1000.0),
-    capacitor(5, 0, 1e-10),
-    diode(5, 0, 1e-14, 27.0),
-    resistor(5, 0, 100000.0),
-]
+# the light: a flash with a quick rise and a slow fall
+POINTS = [(0.0, 0.0), (1e-7, 1.0), (5e-7, 0.6), (1.5e-6, 0.1), (3e-6, 0.0), (1e-3, 0.0)]
 
 
-def job(transient, rows, tolerances):
-    sheet = b''.join(SHEET)
-    points = b''.join(struct.pack('<dd', *p) for p in POINTS)
-    options = [1e-3, 1e-6, 1e-6, 0.0, 1e-6, 1e-7, 0.5, 0.25, 0.001, 5.0, 1e-12, 1.3806488e-23, 1.60217657e-19]
-    limits = [50, 4, 10, 10000]
+def records(part):
+    """The front end's records; part(value, tolerance) is the value that a part has in place of its nominal one."""
+    return [
+        voltage(1, 0, 0, part(5.0, 0.02)),
+        pattern(2, 0, 1, 0, len(POINTS), 1e-5, -1.0),
+        # the bias: two conducting diodes under a resistor, held by a buffer
+        resistor(1, 3, part(22e3, 0.01)),
+        diode(3, 4, part(1e-14, 0.3), 27.0),
+        diode(4, 0, part(1e-14, 0.3), 27.0),
+        capacitor(3, 0, part(1e-10, 0.1)),
+        vcvs(5, 0, 3, 0, 2, part(1.0, 0.001)),
+        # the detector: photocurrent, dark current, junction and its capacitance, shunt; a diode that protects the other way; pickup of a converter
+        vccs(6, 5, 2, 0, part(3e-7, 0.1)),
+        current(6, 5, part(2e-9, 0.5)),
+        diode(5, 6, part(1e-11, 0.5), 27.0),
+        capacitor(6, 5, part(1e-11, 0.1)),
+        resistor(6, 5, part(1e9, 0.2)),
+        diode(6, 5, part(1e-14, 0.3), 27.0),
+        sine_current(6, 5, 0.0, 1e-9, 2.5e5),
+        # the transimpedance amplifier: a stage with its pole, kept between ground and supply by diodes, a buffer, and the feedback
+        vccs(5, 7, 5, 6, part(1e-2, 0.2)),
+        resistor(7, 5, part(1e5, 0.05)),
+        capacitor(7, 5, part(1.6e-11, 0.1)),
+        diode(7, 1, part(1e-14, 0.3), 27.0),
+        diode(0, 7, part(1e-14, 0.3), 27.0),
+        vcvs(8, 0, 7, 0, 3, 1.0),
+        resistor(8, 6, part(1e6, 0.01)),
+        capacitor(8, 6, part(5e-13, 0.1)),
+        # the second stage behind a coupling capacitor, with its clamps, and the output's filter
+        capacitor(8, 9, part(1e-10, 0.05)),
+        resistor(9, 5, part(1e5, 0.01)),
+        vccs(5, 10, 9, 5, part(2e-3, 0.02)),
+        resistor(10, 5, part(5e3, 0.01)),
+        diode(10, 1, part(1e-14, 0.3), 27.0),
+        diode(0, 10, part(1e-14, 0.3), 27.0),
+        resistor(10, 11, part(1e3, 0.01)),
+        capacitor(11, 0, part(1e-10, 0.05)),
+        resistor(11, 0, part(1e5, 0.01)),
+    ]
+
+
+# RELTOL, VNTOL, ABSTOL, TSTART, TSTOP, TSTEP, FS, FT, RMIN, RMAX, GMIN, BOLTZMANN, CHARGE. RELTOL is small because with 1e-3 the bias string settles
+# falsely at 5 V (docs/DIFFERENCES.md, "False settling"); rows begin when the empty capacitors have filled.
+OPTIONS = struct.pack('<13d', 1e-9, 1e-9, 1e-12, 9e-6, 1.8e-5, 1e-7, 0.5, 0.25, 1e-3, 2.0, 1e-12, 1.3806488e-23, 1.603e-19)
+POINT_BYTES = b''.join(struct.pack('<dd', *p) for p in POINTS)
+# row 0 is empty; amperes at the nodes, volts at the sources
+TOLERANCES = [0.0] + [1e-12] * (NODES - 1) + [1e-9] * SOURCES
+
+
+def job(sheet, transient=0, rows=0, itl1=50, tolerances=()):
     cells = N * (N + 1)
-    lent = [cells, cells, cells, N, len(SHEET), rows * (N + 1)]
-    body = struct.pack('<QQQ', transient, NODES, SOURCES) + struct.pack('<13d', *options)
-    body += struct.pack('<4Q', *limits) + struct.pack('<2Q', len(sheet), len(points)) + struct.pack('<6Q', *lent)
-    body += sheet + bytes(-len(sheet) % 8) + points + bytes(-len(points) % 8)
-    body += struct.pack('<%dd' % len(tolerances), *tolerances)
+    lent = [cells, cells, cells, N, len(sheet) // 40, rows * (N + 1)]
+    body = struct.pack('<3Q', transient, NODES, SOURCES) + OPTIONS + struct.pack('<4Q', itl1, 8, 20, 10000)
+    body += struct.pack('<2Q', len(sheet), len(POINT_BYTES)) + struct.pack('<6Q', *lent)
+    body += sheet + POINT_BYTES + struct.pack('<%dd' % len(tolerances), *tolerances)
     return struct.pack('<Q', len(body) + 8) + body
 
 
-jobs = [job(0, 0, [1e-12] * N), job(1, 200, [])]
-path = os.path.join(os.path.dirname(os.path.abspath(__file__)), 'front_end.jobs')
-with open(path, 'wb') as f:
-    f.write(b'SAVJOBS1' + struct.pack('<3Q', len(jobs), max(map(len, jobs)), 0) + b''.join(jobs))
+def main():
+    nominal = records(lambda value, tolerance: value)
+    sheet = b''.join(nominal)
+    damaged = b''.join(nominal[:8] + [current(NODES, 5, 2e-9)] + nominal[9:])
+    jobs = [job(sheet, tolerances=TOLERANCES), job(sheet, transient=1, rows=400, tolerances=TOLERANCES), job(sheet, itl1=4), job(damaged)]
+    path = os.path.join(os.path.dirname(os.path.abspath(__file__)), 'front_end.jobs')
+    with open(path, 'wb') as f:
+        f.write(b'SAVJOBS1' + struct.pack('<3Q', len(jobs), max(map(len, jobs)), 0) + b''.join(jobs))
+
+
+if __name__ == '__main__':
+    main()

@@ -3,7 +3,6 @@ ghost use mathlib.Core.Path.{_≡_};
 ghost use Prim.Native.Nat.{_≤_};
 ghost use lib.ListN.{length, take};
 ghost use Rattle.io.specs.Counts.{Counts};
-use super::say;
 use engine::Outcome;
 use libc::STDOUT_FILENO;
 use num::f64_at;
@@ -228,7 +227,7 @@ fn analysed(
 }
 
 // The options among a job's numbers.
-fn options_of(header: &[u8]) -> Options {
+pub fn options_of(header: &[u8]) -> Options {
     Options {
         reltol: f64_at(header, 32),
         vntol: f64_at(header, 40),
@@ -251,7 +250,7 @@ fn options_of(header: &[u8]) -> Options {
 }
 
 // Reads n bytes, and the zero bytes after them up to a multiple of 8, and answers how many it put at the start of `buf`: fewer than n where the file or `buf` ends.
-fn part(fd: i32, buf: &mut [u8], n: u64) -> usize
+pub fn part(fd: i32, buf: &mut [u8], n: u64) -> usize
     ensures { λ r. ⌜ Counts r (now (buf .exit)) ⌝ }
 {
     let m = within_bytes(buf, n as usize);

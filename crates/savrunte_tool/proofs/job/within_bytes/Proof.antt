@@ -4,14 +4,10 @@ use lib.Seq.{length-take-le}
 use borrow.Author.Needs.{needs}
 use Rattle.savrunte_tool.proofs.job.within_bytes.Statement.{statement}
 use Rattle.savrunte_tool.proofs.job.within_bytes.Tie as tie
-use Rattle.savrunte_tool.proofs.job.within_bytes.Reads as reads
-use Rattle.savrunte_tool.proofs.job.within_bytes.Lts as lts
 
--- src/job.rt:243:9
 returns : tie.Need-returns
 returns c = (omega arith, sym (length-take-le _ _ (omega arith)))
 
--- src/job.rt:239:1
 returns-2 : tie.Need-returns-2
 returns-2 c = (omega arith, sym (length-take-le _ _ (omega arith)))
 

@@ -1,0 +1,199 @@
+// What is written about spreads: how many runs ended in each way, the chosen unknown over the settled ones, and every run that did not settle; after each line the same for a machine.
+use super::number::print_bits;
+use super::number::print_float;
+use super::word::number_word;
+use super::word::print;
+use super::word::text;
+
+// What was asked for.
+pub fn asked(jobs: u64, nodes: u64, sources: u64, unknown: u64) {
+    text(b"Spreads: ");
+    print(jobs);
+    text(b" jobs in one call, DC operating point, ");
+    print(nodes);
+    text(b" nodes with ground, ");
+    print(sources);
+    text(b" sources; the chosen unknown is ");
+    name(unknown, nodes);
+    text(b"\n#\tspreads\t");
+    print(jobs);
+    text(b"\t");
+    print(nodes);
+    text(b"\t");
+    print(sources);
+    text(b"\t");
+    name(unknown, nodes);
+    text(b"\n");
+}
+
+// The unknown's name: a node's voltage, or a source's current.
+fn name(unknown: u64, nodes: u64) {
+    if unknown < nodes {
+        text(b"node ");
+        print(unknown);
+        return;
+    }
+    text(b"source ");
+    print(unknown - nodes);
+}
+
+// A refusal of the whole call.
+pub fn call_refused(number: u8) {
+    text(b"the whole call is refused by ");
+    print(number as u64);
+    text(b" (");
+    if number == 2 {
+        text(b"sheets not of one length, not whole records, or too many records");
+    } else {
+        number_word(number);
+    }
+    text(b"): no job ran\n#\trefused\t");
+    print(number as u64);
+    text(b"\t0\n");
+}
+
+// How many jobs have each number, and that these are all the jobs given.
+pub fn counts(counts: &[u64], jobs: u64) {
+    let mut sum: u64 = 0;
+    for k in 0..27 {
+        sum = counted(k, at(counts, k as usize), sum);
+    }
+    text(b"all: ");
+    print(sum);
+    text(b" runs of ");
+    print(jobs);
+    text(b" jobs given\n#\ttotal\t");
+    print(sum);
+    text(b"\t");
+    print(jobs);
+    text(b"\n");
+}
+
+// The line of number k, which a DC run can end with or which did come; the sum so far with it.
+fn counted(k: u8, count: u64, sum: u64) -> u64 {
+    if ends_dc(k) | (count != 0) {
+        numbered(k);
+        text(b": ");
+        print(count);
+        text(b"\n#\tcount\t");
+        print(k as u64);
+        text(b"\t");
+        print(count);
+        text(b"\n");
+    }
+    std::num::wrapping_add_u64(sum, count)
+}
+
+// Whether a DC job can be refused by this number or end with it as its verdict.
+fn ends_dc(k: u8) -> bool {
+    match k {
+        0 | 6..=10 | 20..=22 | 24 => true,
+        _ => false,
+    }
+}
+
+// A job's number and what it means.
+fn numbered(k: u8) {
+    if (0 < k) & (k < 20) {
+        text(b"refused by ");
+    } else {
+        text(b"verdict ");
+    }
+    print(k as u64);
+    text(b" (");
+    number_word(k);
+    text(b")");
+}
+
+// Smallest, largest and mean of the chosen unknown over the settled runs.
+pub fn range(
+    settled: u64,
+    smallest: f64,
+    smallest_at: u64,
+    largest: f64,
+    largest_at: u64,
+    mean: f64,
+) {
+    if settled == 0 {
+        text(b"no run settled: there is no smallest, no largest and no mean\n");
+        return;
+    }
+    value(b"smallest", smallest, b", job ", smallest_at);
+    value(b"largest", largest, b", job ", largest_at);
+    value(b"mean", mean, b", settled runs ", settled);
+}
+
+// A value by its name, with the number that belongs to it.
+fn value(name: &[u8], x: f64, what: &[u8], k: u64) {
+    text(name);
+    text(b" = ");
+    print_float(x);
+    text(what);
+    print(k);
+    text(b"\n#\t");
+    text(name);
+    text(b"\t");
+    print_bits(x);
+    text(b"\t");
+    print(k);
+    text(b"\n");
+}
+
+// Every run that did not settle.
+pub fn unsettled(numbers: &[u64], places: &[u64], passes: &[u64], jobs: u64, settled: u64) {
+    if jobs <= settled {
+        text(b"every run settled\n");
+        return;
+    }
+    text(b"not settled, and in no value above: ");
+    print(jobs - settled);
+    text(b"\n");
+    for i in 0..jobs {
+        let k = i as usize;
+        run(i, at(numbers, k), at(places, k), at(passes, k));
+    }
+}
+
+// The line of a run that did not settle.
+fn run(job: u64, number: u64, place: u64, passes: u64) {
+    if number == 0 {
+        return;
+    }
+    let k = small(number);
+    text(b"job ");
+    print(job);
+    text(b": ");
+    numbered(k);
+    if k < 20 {
+        text(b", record ");
+        print(place);
+    } else {
+        text(b", passes ");
+        print(passes);
+    }
+    text(b"\n#\tnot settled\t");
+    print(job);
+    text(b"\t");
+    print(number);
+    text(b"\t");
+    print(place);
+    text(b"\t");
+    print(passes);
+    text(b"\n");
+}
+
+// x[i], and 0 past the end.
+fn at(x: &[u64], i: usize) -> u64 {
+    if i < x.len() {
+        return x[i];
+    }
+    0
+}
+
+// n as a byte, and 255 for all that are larger.
+fn small(n: u64) -> u8 {
+    if n < 255 {
+        return n as u8;
+    }
+    255
+}

@@ -1,0 +1,121 @@
+/* Runs every job of a file (docs/FORMATS.md) through the C door and prints the lines that ./savrunte prints for a machine.
+ * examples/front_end.sh builds it, runs it on examples/front_end.jobs and compares the two. */
+#include <inttypes.h>
+#include <stdio.h>
+#include <stdlib.h>
+#include <string.h>
+
+#include "savrunte.h"
+
+/* The bytes of a job's numbers, and room for any job that runs, as docs/FORMATS.md names it; all of it starts as zeros. */
+enum { HEAD = 232, CELLS = 2360, UNKNOWNS = 64, MEMORY = 264, ROWS = 32768, SHEET = 10480, POINTS = 16640 };
+
+/* A job as it stands in the file, up to the floats lent; then what follows there. */
+typedef struct job {
+    uint64_t bytes, transient, nodes, sources;
+    savrunte_options options;
+    uint64_t sheet_len, points_len, lent[6]; /* floats lent: base, system, elimination, vector, memory, rows */
+    uint8_t sheet[SHEET], points[POINTS];
+    double tolerances[UNKNOWNS];
+    size_t rows_judged;
+} job;
+
+static double base[CELLS], matrix[CELLS], elimination[CELLS], vector[UNKNOWNS], memory[MEMORY], rows[ROWS];
+
+static void stop(const char *why) {
+    fprintf(stderr, "%s\n", why);
+    exit(1);
+}
+
+/* Reads n bytes and the zero bytes that fill them up to a multiple of 8. x86-64 is little-endian, as the file is. */
+static void take(FILE *file, void *to, size_t n, size_t room) {
+    char padding[8];
+    if (n > room || fread(to, 1, n, file) != n || fread(padding, 1, -n % 8, file) != -n % 8) {
+        stop("The file ends inside a job, or the job is larger than any that runs.");
+    }
+}
+
+static job next_job(FILE *file) {
+    job j;
+    memset(&j, 0, sizeof j);
+    take(file, &j, HEAD, sizeof j);
+    take(file, j.sheet, j.sheet_len, sizeof j.sheet);
+    take(file, j.points, j.points_len, sizeof j.points);
+    size_t left = j.bytes - HEAD - (j.sheet_len + 7) / 8 * 8 - (j.points_len + 7) / 8 * 8;
+    take(file, j.tolerances, left, sizeof j.tolerances);
+    j.rows_judged = left / 8;
+    return j;
+}
+
+static savrunte_transient_answer run(const job *j) {
+    if (j->transient == 1) {
+        return savrunte_transient(j->sheet, j->sheet_len, j->points, j->points_len, j->nodes, j->sources, j->options, base,
+                                  j->lent[0], matrix, j->lent[1], elimination, j->lent[2], vector, j->lent[3], memory,
+                                  j->lent[4], rows, j->lent[5]);
+    }
+    savrunte_dc_answer dc =
+        savrunte_dc(j->sheet, j->sheet_len, j->points, j->points_len, j->nodes, j->sources, j->options, base, j->lent[0],
+                    matrix, j->lent[1], elimination, j->lent[2], vector, j->lent[3], memory, j->lent[4]);
+    savrunte_transient_answer a = {dc.refusal, dc.place, dc.verdict, dc.verdict, dc.passes, 0, 0.0};
+    return a;
+}
+
+/* A float's bits; any NaN counts as one. */
+static uint64_t bits(double x) {
+    uint64_t b = UINT64_C(0x7ff8000000000000);
+    if (x == x) {
+        memcpy(&b, &x, 8);
+    }
+    return b;
+}
+
+static void print_unknowns(const job *j) {
+    for (uint64_t i = 0; i < j->lent[3] && i < j->nodes + j->sources; i++) {
+        int node = i < j->nodes;
+        printf("#\tunknown\t%s %" PRIu64 "\t%016" PRIx64 "\n", node ? "node" : "source", node ? i : i - j->nodes, bits(vector[i]));
+    }
+}
+
+static void print_judged(const job *j) {
+    savrunte_judge_answer a =
+        savrunte_judge(matrix, j->lent[1], vector, j->lent[3], j->tolerances, UNKNOWNS, j->rows_judged);
+    if (a.refusal != 0) {
+        printf("#\tjudged\trefused\t%" PRIu64 "\n", a.refusal);
+    } else if (a.row < j->rows_judged) {
+        printf("#\tjudged\trejected\t%" PRIu64 "\n", a.row);
+    } else {
+        printf("#\tjudged\taccepted\n");
+    }
+}
+
+static void run_and_print(const job *j) {
+    if (j->lent[0] > CELLS || j->lent[1] > CELLS || j->lent[2] > CELLS || j->lent[3] > UNKNOWNS || j->lent[4] > MEMORY ||
+        j->lent[5] > ROWS) {
+        stop("The job wants larger buffers than there are.");
+    }
+    savrunte_transient_answer a = run(j);
+    if (a.refusal != 0) {
+        printf("#\trefused\t%" PRIu64 "\t%" PRIu64 "\n", a.refusal, a.place);
+        return;
+    }
+    printf("#\tended\t%" PRIu64 "\t%" PRIu64 "\t%" PRIu64 "\t%" PRIu64 "\t%016" PRIx64 "\n", a.verdict, a.dc_verdict, a.passes,
+           a.rows, bits(a.end));
+    print_unknowns(j);
+    if (j->rows_judged != 0) {
+        print_judged(j);
+    }
+}
+
+int main(int argc, char **argv) {
+    FILE *file = argc == 2 ? fopen(argv[1], "rb") : NULL;
+    uint64_t head[4];
+    if (file == NULL || fread(head, 1, 32, file) != 32 || memcmp(head, "SAVJOBS1", 8) != 0) {
+        stop("usage: front_end FILE, a file of jobs (docs/FORMATS.md)");
+    }
+    for (uint64_t k = 0; k < head[1]; k++) {
+        job j = next_job(file);
+        run_and_print(&j);
+    }
+    fclose(file);
+    return 0;
+}
