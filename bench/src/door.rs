@@ -1,6 +1,7 @@
 //! The shipped archive through its C door. `no_door.rs` has the same names for a bench without one.
 
 use crate::job::*;
+use crate::spread_calls::{Call, Report, SpreadsAnswer};
 use recorder::Functions;
 
 #[repr(C)]
@@ -95,6 +96,39 @@ extern "C" {
         rows: *mut f64,
         rows_length: usize,
     ) -> TransientAnswer;
+    fn savrunte_spreads(
+        sheets: *const u8,
+        sheets_length: usize,
+        points: *const u8,
+        points_length: usize,
+        jobs: usize,
+        nodes: usize,
+        sources: usize,
+        unknown: usize,
+        options: Options,
+        base: *mut f64,
+        base_length: usize,
+        system: *mut f64,
+        system_length: usize,
+        elimination: *mut f64,
+        elimination_length: usize,
+        memory: *mut f64,
+        memory_length: usize,
+        vectors: *mut f64,
+        vectors_length: usize,
+        numbers: *mut u64,
+        numbers_length: usize,
+        places: *mut u64,
+        places_length: usize,
+        passes: *mut u64,
+        passes_length: usize,
+        counts: *mut u64,
+        counts_length: usize,
+        plus: *mut u64,
+        plus_length: usize,
+        minus: *mut u64,
+        minus_length: usize,
+    ) -> SpreadsAnswer;
     fn savrunte_solve(
         matrix: *mut f64,
         matrix_length: usize,
@@ -205,6 +239,54 @@ pub fn run(job: &Job) -> Option<Answer> {
     let mut answer = call(job, &mut buffers);
     answer.buffers = buffers;
     Some(answer)
+}
+
+/// All spreads in one call, on buffers already lent: numbers only.
+pub fn call_spreads(call: &Call, floats: &mut [Vec<f64>; 5], words: &mut [Vec<u64>; 6]) -> SpreadsAnswer {
+    let [base, system, elimination, memory, vectors] = floats;
+    let [numbers, places, passes, counts, plus, minus] = words;
+    unsafe {
+        savrunte_spreads(
+            call.sheets.as_ptr(),
+            call.sheets.len(),
+            call.points.as_ptr(),
+            call.points.len(),
+            call.jobs,
+            call.nodes as usize,
+            call.sources as usize,
+            call.unknown as usize,
+            call.options,
+            base.as_mut_ptr(),
+            call.floats[0],
+            system.as_mut_ptr(),
+            call.floats[1],
+            elimination.as_mut_ptr(),
+            call.floats[2],
+            memory.as_mut_ptr(),
+            call.floats[3],
+            vectors.as_mut_ptr(),
+            call.floats[4],
+            numbers.as_mut_ptr(),
+            call.words[0],
+            places.as_mut_ptr(),
+            call.words[1],
+            passes.as_mut_ptr(),
+            call.words[2],
+            counts.as_mut_ptr(),
+            call.words[3],
+            plus.as_mut_ptr(),
+            call.words[4],
+            minus.as_mut_ptr(),
+            call.words[5],
+        )
+    }
+}
+
+/// All spreads in one call: the whole report, buffers included.
+pub fn spreads(call: &Call) -> Report {
+    let (mut floats, mut words) = (call.lent_floats(), call.lent_words());
+    let answer = call_spreads(call, &mut floats, &mut words);
+    Report { answer, floats, words }
 }
 
 /// The refusal; the matrix is scratch, the vector holds the solution.

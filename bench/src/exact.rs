@@ -4,10 +4,11 @@ use crate::compare::same;
 use crate::model::MOST_UNKNOWNS;
 
 const LIMBS: usize = 70;
+const KEPT: usize = 66;
 
 /// A sum of sizes, in units of 2^-2148.
 #[derive(Clone)]
-struct Sum([u64; LIMBS]);
+pub struct Sum([u64; LIMBS]);
 
 /// Mantissa and shift of a finite size: size = m * 2^(shift - 1074).
 fn parts(x: f64) -> (u64, usize) {
@@ -21,6 +22,17 @@ fn parts(x: f64) -> (u64, usize) {
 }
 
 impl Sum {
+    pub fn zero() -> Sum {
+        Sum([0; LIMBS])
+    }
+
+    /// The limbs that are lent for a sum, lowest first; the others are spare here and must be zero.
+    pub fn limbs(&self) -> &[u64] {
+        let (kept, spare) = self.0.split_at(KEPT);
+        assert!(spare.iter().all(|l| *l == 0));
+        kept
+    }
+
     /// Adds m * 2^shift.
     fn add(&mut self, m: u128, shift: usize) {
         let (limb, bit) = (shift / 64, shift % 64);
@@ -38,7 +50,7 @@ impl Sum {
     }
 
     /// Adds the size of a product.
-    fn add_product(&mut self, a: f64, b: f64) {
+    pub fn add_product(&mut self, a: f64, b: f64) {
         let ((m, s), (n, t)) = (parts(a), parts(b));
         self.add(m as u128 * n as u128, s + t);
     }
@@ -51,7 +63,7 @@ impl Sum {
 /// Whether a row's sum less its right side is within the tolerance, exactly.
 fn within(row: &[f64], x: &[f64], tolerance: f64) -> bool {
     let n = x.len();
-    let (mut over, mut under) = (Sum([0; LIMBS]), Sum([0; LIMBS]));
+    let (mut over, mut under) = (Sum::zero(), Sum::zero());
     for c in 0..n {
         let side = if row[c].is_sign_negative() == x[c].is_sign_negative() { &mut over } else { &mut under };
         side.add_product(row[c], x[c]);

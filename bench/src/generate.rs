@@ -401,8 +401,7 @@ fn damage(r: &mut Random, job: &mut Job) {
 }
 
 fn damage_once(r: &mut Random, job: &mut Job) {
-    let records = job.sheet.len() / RECORD;
-    let byte = if records > 0 { RECORD * r.below(records) } else { 0 };
+    let byte = some_record(r, job);
     match r.below(10) {
         0 => match r.below(5) {
             0 => job.nodes = 0,
@@ -447,7 +446,30 @@ fn damage_once(r: &mut Random, job: &mut Job) {
             let n = (job.nodes.wrapping_add(job.sources)) as usize;
             job.lengths[which] = if which == ROWS { l.min(n.min(48)) } else { l.saturating_sub(1 + r.below(3)) };
         }
-        _ if records == 0 => {}
+        fault => damage_bytes(r, job, byte, fault),
+    }
+}
+
+/// Where a record begins.
+fn some_record(r: &mut Random, job: &Job) -> usize {
+    match job.sheet.len() / RECORD {
+        0 => 0,
+        records => RECORD * r.below(records),
+    }
+}
+
+/// One fault in a record, of every refusal from 6 to 10.
+pub fn damage_record(r: &mut Random, job: &mut Job) {
+    let byte = some_record(r, job);
+    let fault = 5 + r.below(5);
+    damage_bytes(r, job, byte, fault);
+}
+
+fn damage_bytes(r: &mut Random, job: &mut Job, byte: usize, fault: usize) {
+    if job.sheet.len() < RECORD {
+        return;
+    }
+    match fault {
         5 => job.sheet[byte] = r.pick(&[0, 11, 12, 99, 255]),
         6 => {
             let at = byte + 1 + r.below(39);

@@ -12,11 +12,16 @@ mod jobs;
 mod leaves;
 mod list;
 mod model;
+mod netlist;
 mod oracle;
 mod random;
 mod shrink;
 mod sides;
 mod speed;
+mod spread_calls;
+mod spread_rules;
+mod spreads;
+mod spreads_speed;
 mod tally;
 
 /// Panics of the Rust that stand for a verdict are caught and not shown.
@@ -30,8 +35,14 @@ fn quiet_panics() {
     }));
 }
 
+fn conclude(differences: u64) -> u64 {
+    println!("{}", if differences == 0 { "0 differences" } else { "DIFFERENCES: see above" });
+    differences
+}
+
 const USAGE: &str = "usage: bench run SEED COUNT FOLDER | directed | show | leaves SEED COUNT | jobs SEED COUNT FOLDER
-    | job SEED PLACE | find READING SEED COUNT | list SEED FILE | replay FILE | speed";
+    | job SEED PLACE | find READING SEED COUNT | list SEED FILE | replay FILE | speed
+    | spreads SEED CALLS | spread SEED PLACE | spreads-speed FOLDER FILE";
 
 fn main() {
     quiet_panics();
@@ -41,9 +52,8 @@ fn main() {
     let (seed, count) = (|| number(1, 1), || number(2, 100_000));
     let amiss = match text(0, "") {
         "run" => {
-            let all = directed::run() + leaves::run(seed(), count()) + jobs::run(seed(), count(), text(3, "."));
-            println!("{}", if all == 0 { "0 differences" } else { "DIFFERENCES: see above" });
-            all
+            let runs = directed::run() + leaves::run(seed(), count()) + jobs::run(seed(), count(), text(3, "."));
+            conclude(runs + spreads::run(seed(), count() / 100))
         }
         "directed" => directed::run(),
         "show" => directed::show_all(),
@@ -54,6 +64,9 @@ fn main() {
         "list" => list::write(seed(), text(2, "answers.bin")),
         "replay" => list::replay(text(1, "answers.bin")),
         "speed" => speed::run(),
+        "spreads" => conclude(spreads::run(seed(), number(2, 1000))),
+        "spreads-speed" => spreads_speed::run(text(1, "-"), text(2, "-")),
+        "spread" => spreads::show_one(seed(), number(2, 0)),
         _ => {
             eprintln!("{}", USAGE);
             1

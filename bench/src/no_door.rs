@@ -3,6 +3,7 @@
 use crate::functions::STANDING_IN;
 use crate::job::*;
 use crate::model::{self, Wrong};
+use crate::spread_calls::{Call, Report, SpreadsAnswer};
 use recorder::Functions;
 
 pub const LINKED: bool = false;
@@ -15,6 +16,16 @@ pub fn call(job: &Job, _: &mut [Vec<f64>; 6]) -> Answer {
 
 pub fn run(_: &Job) -> Option<Answer> {
     None
+}
+
+/// Never asked for without an archive.
+pub fn spreads(call: &Call) -> Report {
+    Report::refused(call, 0)
+}
+
+/// Never timed without an archive.
+pub fn call_spreads(_: &Call, _: &mut [Vec<f64>; 5], _: &mut [Vec<u64>; 6]) -> SpreadsAnswer {
+    SpreadsAnswer::default()
 }
 
 pub fn solve(_: usize, _: &mut [f64], _: &mut [f64]) -> Option<u64> {

@@ -10,7 +10,7 @@ use recorder::Record;
 
 const SIZES: [usize; 4] = [2, 8, 24, 48];
 const STEPS: usize = 1000;
-const ROUNDS: usize = 9;
+pub const ROUNDS: usize = 9;
 const LEAST: f64 = 0.03;
 
 /// A ladder of N unknowns: driven at its first node, a capacitor at each node, and with
@@ -62,22 +62,22 @@ fn now() -> f64 {
 }
 
 /// Seconds of one run: the shortest of several rounds, each long enough to be read off a clock.
-struct Stopwatch {
+pub struct Stopwatch {
     repeats: usize,
-    best: f64,
+    pub best: f64,
     /// Kept so that no run can be left out.
     passes: u64,
 }
 
 impl Stopwatch {
-    fn new(run: &mut dyn FnMut() -> u64) -> Stopwatch {
+    pub fn new(run: &mut dyn FnMut() -> u64) -> Stopwatch {
         let begun = now();
         run();
         let once = now() - begun;
         Stopwatch { repeats: ((LEAST / once.max(1e-9)) as usize).clamp(1, 100_000), best: f64::INFINITY, passes: 0 }
     }
 
-    fn round(&mut self, run: &mut dyn FnMut() -> u64) {
+    pub fn round(&mut self, run: &mut dyn FnMut() -> u64) {
         let begun = now();
         for _ in 0..self.repeats {
             self.passes += run();

@@ -21,10 +21,12 @@
 
 mod raw;
 mod record;
+mod spreads;
 mod words;
 
 pub use raw::Options;
 pub use record::{points, Record};
+pub use spreads::{spreads, ExactSum, Extreme, Report, Spread, Spreads, SpreadsBuffers, SpreadsLent};
 pub use words::{Refusal, Verdict};
 
 /// What a run is lent: the buffers of the header's `savrunte_dc`, of any length. Too short a buffer is refused by 5.

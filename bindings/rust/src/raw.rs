@@ -68,6 +68,16 @@ pub struct TransientAnswer {
 }
 
 #[repr(C)]
+pub struct SpreadsAnswer {
+    pub refusal: u64,
+    pub settled: u64,
+    pub smallest: f64,
+    pub largest: f64,
+    pub smallest_at: u64,
+    pub largest_at: u64,
+}
+
+#[repr(C)]
 pub struct ConvergenceAnswer {
     pub refusal: u64,
     pub state: u64,
@@ -114,12 +124,23 @@ extern "C" {
         elimination: *mut f64, elimination_len: usize, vector: *mut f64, vector_len: usize,
         memory: *mut f64, memory_len: usize, rows: *mut f64, rows_len: usize,
     ) -> TransientAnswer;
+    pub fn savrunte_spreads(
+        sheets: *const u8, sheets_len: usize, points: *const u8, points_len: usize,
+        jobs: usize, nodes: usize, sources: usize, unknown: usize, options: Options,
+        base: *mut f64, base_len: usize, system: *mut f64, system_len: usize,
+        elimination: *mut f64, elimination_len: usize, memory: *mut f64, memory_len: usize,
+        vectors: *mut f64, vectors_len: usize, numbers: *mut u64, numbers_len: usize,
+        places: *mut u64, places_len: usize, passes: *mut u64, passes_len: usize,
+        counts: *mut u64, counts_len: usize, plus: *mut u64, plus_len: usize,
+        minus: *mut u64, minus_len: usize,
+    ) -> SpreadsAnswer;
     pub fn savrunte_solve(matrix: *mut f64, matrix_len: usize, vector: *mut f64, vector_len: usize, rows: usize) -> u64;
     pub fn savrunte_convergence(x: *const f64, x_len: usize, y: *const f64, y_len: usize, nodes: usize, options: Options) -> ConvergenceAnswer;
     pub fn savrunte_judge(
         system: *const f64, system_len: usize, vector: *const f64, vector_len: usize,
         tolerances: *const f64, tolerances_len: usize, rows: usize,
     ) -> JudgeAnswer;
+    pub fn savrunte_mean(plus: *const u64, plus_len: usize, minus: *const u64, minus_len: usize, count: u64) -> f64;
     pub fn savrunte_exp(x: f64) -> f64;
     pub fn savrunte_ln(x: f64) -> f64;
     pub fn savrunte_sin(x: f64) -> SinAnswer;

@@ -55,6 +55,7 @@ numbered! {
         Range = 10, "a pattern reaches past the points given";
         Number = 11, "a number is not finite, or a tolerance is below zero";
         Sine = 12, "the sine's argument is beyond 2^20 in size";
+        Jobs = 13, "no job, more than 256 of them, or an unknown outside the vector";
     }
 }
 
