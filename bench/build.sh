@@ -86,7 +86,7 @@ if [ "$(cat "$out/stamp" 2>/dev/null || true)" != "$stamp" ]; then
     # shellcheck disable=SC2086
     "$rustc" --edition 2021 -O $flags --crate-type rlib --crate-name recorder "$top/bench/oracle/recorder.rs" --out-dir "$out"
     externs="--extern recorder=$out/librecorder.rlib"
-    for build in plain quiet hooked; do
+    for build in plain quiet timed hooked; do
         rm -rf "${out:?}/$build"
         "$out/prepare" $build "$rust" "$out/$build" "$top/bench/oracle/wavewriter.rs"
         # shellcheck disable=SC2086

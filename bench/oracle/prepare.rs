@@ -1,7 +1,7 @@
 //! Copies the published Rust and makes the few edits under which it becomes an oracle.
 //! Every edit names the text it replaces and how often that stands there; a miss is an error.
 //!
-//! usage: prepare plain|quiet|hooked SOURCE OUT WAVEWRITER
+//! usage: prepare plain|quiet|timed|hooked SOURCE OUT WAVEWRITER
 
 use std::env;
 use std::fs;
@@ -58,7 +58,7 @@ const HOOKS: &[Edit] = &[
         "element/diode.rs",
         "use crate::circuit::{NodeId, BOLTZMANN, CHARGE, GMIN};",
         1,
-        "use crate::circuit::NodeId; use recorder::Ours;",
+        "use crate::circuit::NodeId;",
     ),
     Edit("element/diode.rs", "Cell::new(GMIN)", 1, "Cell::new(::recorder::gmin())"),
     Edit("element/diode.rs", "if g_eq < GMIN {", 1, "if g_eq < ::recorder::gmin() {"),
@@ -69,13 +69,24 @@ const HOOKS: &[Edit] = &[
         1,
         "::recorder::boltzmann() * (363.0 + self.tdegc) / ::recorder::charge()",
     ),
-    // exp, ln, sin from outside
+];
+
+/// exp, ln and sin from outside.
+const FUNCTIONS: &[Edit] = &[
     Edit("element/diode.rs", ".exp()", 1, ".our_exp()"),
     Edit("element/diode.rs", ".ln()", 3, ".our_ln()"),
     Edit("element/isine.rs", ".sin()", 1, ".our_sin()"),
     Edit("element/vsine.rs", ".sin()", 1, ".our_sin()"),
+    Edit("element/diode.rs", "use std::cell::Cell;", 1, "use std::cell::Cell; use recorder::Ours;"),
     Edit("element/isine.rs", "use std::f64::consts::PI;", 1, "use std::f64::consts::PI; use recorder::Ours;"),
     Edit("element/vsine.rs", "use std::f64::consts::PI;", 1, "use std::f64::consts::PI; use recorder::Ours;"),
+];
+
+/// The same without a look at the record: for timing.
+const TIMED: &[Edit] = &[
+    Edit("element/diode.rs", "recorder::Ours", 1, "recorder::Timed"),
+    Edit("element/isine.rs", "recorder::Ours", 1, "recorder::Timed"),
+    Edit("element/vsine.rs", "recorder::Ours", 1, "recorder::Timed"),
 ];
 
 /// Text appended to the hooked build: it reads what the Rust keeps private.
@@ -161,12 +172,12 @@ fn copy(from: &Path, to: &Path) {
 fn main() {
     let args: Vec<String> = env::args().collect();
     if args.len() != 5 {
-        fail("usage: prepare plain|quiet|hooked SOURCE OUT WAVEWRITER".to_string());
+        fail("usage: prepare plain|quiet|timed|hooked SOURCE OUT WAVEWRITER".to_string());
     }
     let out = Path::new(&args[3]);
     copy(Path::new(&args[2]), out);
     apply(out, MODULES);
-    apply(out, if args[1] == "quiet" { SILENCE } else { NOTES });
+    apply(out, if args[1] == "quiet" || args[1] == "timed" { SILENCE } else { NOTES });
     let writer = read(&out.join("wavewriter.rs"));
     for line in WRITER {
         if !writer.contains(line) {
@@ -174,6 +185,12 @@ fn main() {
         }
     }
     write(&out.join("wavewriter.rs"), &read(Path::new(&args[4])));
+    if args[1] == "timed" || args[1] == "hooked" {
+        apply(out, FUNCTIONS);
+    }
+    if args[1] == "timed" {
+        apply(out, TIMED);
+    }
     if args[1] == "hooked" {
         apply(out, HOOKS);
         for (file, text) in READERS {

@@ -1,5 +1,6 @@
 //! The published Rust as an oracle: `plain` is unmodified, `hooked` takes counts, constants
-//! and functions from outside and tells its buffers, `quiet` is for timing.
+//! and functions from outside and tells its buffers, `quiet` and `timed` are for timing,
+//! the one unmodified, the other with our functions.
 
 use recorder::Record;
 
@@ -49,22 +50,13 @@ pub mod plain {
 pub mod quiet {
     use spice_quiet as spice;
     include!("driver.rs");
+    include!("timing.rs");
+}
 
-    /// A run on a circuit made beforehand: the statistics alone.
-    pub fn run(transient: bool, circuit: &Circuit, configuration: &Configuration) -> u64 {
-        let mut engine = Engine::new();
-        let s = if transient {
-            engine.transient_analysis(circuit, configuration)
-        } else {
-            engine.dc_operating_point(circuit, configuration)
-        };
-        s.iterations as u64
-    }
-
-    #[allow(dead_code)]
-    fn unused(job: &Job) -> Seen {
-        drive(job, Record::new()).0
-    }
+pub mod timed {
+    use spice_timed as spice;
+    include!("driver.rs");
+    include!("timing.rs");
 }
 
 pub mod hooked {

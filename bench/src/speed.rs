@@ -1,11 +1,13 @@
-//! Times the shipped code against the unmodified Rust: the same circuits, the same loop, one run,
-//! in processor time.
+//! Times the shipped code against the Rust, unmodified and with our functions: the same circuits, the same loop,
+//! one run, in processor time. With our functions the bits are the shipped code's, and are held against them here.
 //! The Rust's prints are gone and its rows go to memory, which favours it.
 
+use crate::compare::{compare, Scope};
 use crate::directed::Build;
 use crate::door;
 use crate::job::*;
-use crate::oracle::quiet;
+use crate::oracle::{hooked, quiet, timed};
+use crate::sides::OURS;
 use recorder::Record;
 
 const SIZES: [usize; 4] = [2, 8, 24, 48];
@@ -91,56 +93,80 @@ fn shipped(job: &Job, buffers: &mut [Vec<f64>; 6]) -> (u64, u64) {
     (a.passes, a.verdict + a.refusal)
 }
 
+/// In how many fields and floats the shipped answer differs from the Rust's with our functions.
+fn differences(job: &Job) -> usize {
+    let (rust, stopped) = hooked::run(job, &OURS);
+    let scope = Scope { end: !stopped, elimination: false };
+    door::run(job).map_or(0, |ours| compare(job, &ours, &rust, scope).len())
+}
+
+/// One row of the table; answers how much is amiss.
+fn row(transient: bool, n: usize, diodes: bool) -> u64 {
+    let job = ladder(n, transient, diodes);
+    let (circuit, ours_circuit) = (quiet::circuit(&job), timed::circuit(&job));
+    let (configuration, ours_configuration) = (quiet::configuration(&job.options), timed::configuration(&job.options));
+    let differ = differences(&job);
+    let mut buffers = job.lent();
+    let (passes, verdict) = shipped(&job, &mut buffers);
+    let mut ours = || shipped(&job, &mut buffers).0;
+    let mut theirs = || {
+        recorder::begin(Record::new());
+        quiet::run(transient, &circuit, &configuration)
+    };
+    let mut with_ours = || {
+        recorder::begin(Record::new());
+        timed::run(transient, &ours_circuit, &ours_configuration)
+    };
+    let rust_passes = theirs();
+    let mut runs: [&mut dyn FnMut() -> u64; 3] = [&mut ours, &mut theirs, &mut with_ours];
+    let mut watches: Vec<Stopwatch> = runs.iter_mut().map(|f| Stopwatch::new(*f)).collect();
+    for _ in 0..ROUNDS {
+        for (watch, run) in watches.iter_mut().zip(runs.iter_mut()) {
+            watch.round(*run);
+        }
+    }
+    recorder::end();
+    let both = if passes == rust_passes { format!("{}", passes) } else { format!("{}/{}", passes, rust_passes) };
+    let (kind, word) = (if transient { "transient" } else { "DC" }, if diodes { "yes" } else { "no" });
+    let us = |k: usize| watches[k].best * 1e6;
+    println!(
+        "{:>10} {:>3} {:>8} {:>9} {:>12.2} {:>12.2} {:>7.2} {:>12.2} {:>7.2} {:>7}",
+        kind,
+        n,
+        word,
+        both,
+        us(0),
+        us(1),
+        us(1) / us(0),
+        us(2),
+        us(2) / us(0),
+        differ
+    );
+    let idle = watches.iter().any(|w| w.passes == 0);
+    if verdict != 0 || idle {
+        println!("  not settled: verdict or refusal {}", verdict);
+    }
+    (verdict != 0 || idle || differ != 0) as u64
+}
+
 pub fn run() -> u64 {
     if !door::LINKED {
         println!("no archive linked: the plain model is timed in its place");
     }
+    recorder::time_with(OURS);
     println!(
-        "{:>10} {:>3} {:>8} {:>14} {:>14} {:>14} {:>7}",
-        "analysis", "N", "diodes", "passes", "shipped, us", "Rust, us", "ratio"
+        "{:>10} {:>3} {:>8} {:>9} {:>12} {:>12} {:>7} {:>12} {:>7} {:>7}",
+        "analysis", "N", "diodes", "passes", "shipped, us", "Rust, us", "ratio", "ours in it", "ratio", "differ"
     );
     let mut bad = 0;
     for transient in [false, true] {
         for diodes in [false, true] {
             for n in SIZES {
-                let job = ladder(n, transient, diodes);
-                let circuit = quiet::circuit(&job);
-                let configuration = quiet::configuration(&job.options);
-                let mut buffers = job.lent();
-                let (passes, verdict) = shipped(&job, &mut buffers);
-                let mut ours = || shipped(&job, &mut buffers).0;
-                let mut theirs = || {
-                    recorder::begin(Record::new());
-                    quiet::run(transient, &circuit, &configuration)
-                };
-                let rust_passes = theirs();
-                let (mut a, mut b) = (Stopwatch::new(&mut ours), Stopwatch::new(&mut theirs));
-                for _ in 0..ROUNDS {
-                    a.round(&mut ours);
-                    b.round(&mut theirs);
-                }
-                recorder::end();
-                let both =
-                    if passes == rust_passes { format!("{}", passes) } else { format!("{}/{}", passes, rust_passes) };
-                let kind = if transient { "transient" } else { "DC" };
-                let (x, y) = (a.best * 1e6, b.best * 1e6);
-                println!(
-                    "{:>10} {:>3} {:>8} {:>14} {:>14.2} {:>14.2} {:>7.2}",
-                    kind,
-                    n,
-                    if diodes { "yes" } else { "no" },
-                    both,
-                    x,
-                    y,
-                    y / x
-                );
-                if verdict != 0 || a.passes == 0 || b.passes == 0 {
-                    println!("  not settled: verdict or refusal {}", verdict);
-                    bad += 1;
-                }
+                bad += row(transient, n, diodes);
             }
         }
     }
     println!("ratio: the Rust's time over the shipped code's; above 1 the shipped code is faster");
+    println!("ours in it: the Rust with our exp, ln and sin, as bits can only be equal; differ: fields and floats of the whole answer that are not");
     bad
 }

@@ -5,8 +5,9 @@ use crate::directed::Build;
 use crate::door;
 use crate::job::*;
 use crate::netlist::{self, Times};
-use crate::oracle::quiet;
+use crate::oracle::{quiet, timed};
 use crate::random::Random;
+use crate::sides::OURS;
 use crate::speed::{Stopwatch, ROUNDS};
 use crate::spread_calls::{Call, VECTORS};
 use recorder::Record;
@@ -130,7 +131,7 @@ fn once(name: &str, call: &Call) -> Runs {
 /// One line: milliseconds for so many jobs, microseconds for one, and the ratio.
 fn row(name: &str, seconds: f64, jobs: usize, ours: f64) {
     let (ms, us) = (seconds * 1e3, seconds * 1e6 / jobs as f64);
-    println!("  {:54} {:>5} {:>9.2} {:>9.2} {:>7.2}", name, jobs, ms, us, seconds / ours);
+    println!("  {:56} {:>5} {:>9.2} {:>9.2} {:>7.2}", name, jobs, ms, us, seconds / ours);
 }
 
 fn table(name: &str, call: &Call, folder: &str) -> u64 {
@@ -149,13 +150,20 @@ fn table(name: &str, call: &Call, folder: &str) -> u64 {
         recorder::begin(Record::new());
         circuits.iter().map(|c| quiet::run(false, c, &configuration)).sum()
     };
+    recorder::time_with(OURS);
+    let with_ours = timed::configuration(&call.options);
+    let mut rust_ours = || {
+        recorder::begin(Record::new());
+        jobs.iter().map(|j| timed::run(false, &timed::circuit(j), &with_ours)).sum()
+    };
     let mut bad = 0;
-    let rust_passes: [u64; 2] = [rust_made(), rust_ready()];
-    if rust_passes != [passes; 2] {
+    let rust_passes: [u64; 3] = [rust_made(), rust_ready(), rust_ours()];
+    if rust_passes != [passes; 3] {
         println!("  passes differ: the Rust has {:?}", rust_passes);
         bad += 1;
     }
-    let mut runs: [&mut dyn FnMut() -> u64; 4] = [&mut all_in_one, &mut one_by_one, &mut rust_made, &mut rust_ready];
+    let mut runs: [&mut dyn FnMut() -> u64; 5] =
+        [&mut all_in_one, &mut one_by_one, &mut rust_made, &mut rust_ready, &mut rust_ours];
     let mut watches: Vec<Stopwatch> = runs.iter_mut().map(|f| Stopwatch::new(*f)).collect();
     let mut round = || {
         for _ in 0..ROUNDS {
@@ -168,12 +176,13 @@ fn table(name: &str, call: &Call, folder: &str) -> u64 {
     let spice =
         if folder == "-" { None } else { Some(netlist::time(folder, &jobs, call.unknown as usize, &mut round)) };
     recorder::end();
-    println!("  {:54} {:>5} {:>9} {:>9} {:>7}", "processor time", "jobs", "ms", "us a job", "ratio");
+    println!("  {:56} {:>5} {:>9} {:>9} {:>7}", "processor time", "jobs", "ms", "us a job", "ratio");
     let ours = watches[0].best;
     row("shipped, one call", ours, call.jobs, ours);
     row("shipped, single calls", watches[1].best, call.jobs, ours);
     row("Rust, circuit and engine made for each run", watches[2].best, jobs.len(), ours);
     row("Rust, circuits made beforehand, engine for each run", watches[3].best, jobs.len(), ours);
+    row("Rust with our functions, circuit and engine for each run", watches[4].best, jobs.len(), ours);
     bad + spice.map_or(0, |times| tell_spice(times, &settled, ours))
 }
 
