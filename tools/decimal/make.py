@@ -10,18 +10,13 @@ import sys
 from decimal import Decimal
 from pathlib import Path
 
-TOP = Path(__file__).resolve().parents[2] / "crates" / "decimal_replay"
+sys.dont_write_bytecode = True
+sys.path.insert(0, str(Path(__file__).resolve().parents[1]))
+from stored import bits_of, float_of, store  # noqa: E402
+
 SEED = 20261115
 PLACE = 326                     # a stored place is that of the lowest digit, and this more
 FLOATS = 4000
-
-
-def float_of(bits):
-    return struct.unpack("<d", struct.pack("<Q", bits))[0]
-
-
-def bits_of(x):
-    return struct.unpack("<Q", struct.pack("<d", x))[0]
 
 
 def shortest(bits):
@@ -81,17 +76,4 @@ def made():
     return data, "".join(f"{k} {n}\n" for k, n in tally.items()) + "differ 0\n"
 
 
-def main():
-    data, stdout = made()
-    files = {TOP / "data" / "floats": data, TOP / "stdout": stdout.encode()}
-    if sys.argv[1:] == ["--check"]:
-        same = all(p.exists() and p.read_bytes() == b for p, b in files.items())
-        print("same" if same else "differs")
-        sys.exit(0 if same else 1)
-    for p, b in files.items():
-        p.parent.mkdir(parents=True, exist_ok=True)
-        p.write_bytes(b)
-    print(stdout, end="")
-
-
-main()
+store("decimal_replay", "floats", *made())

@@ -12,9 +12,10 @@ from fractions import Fraction
 from pathlib import Path
 
 sys.dont_write_bytecode = True
+sys.path.insert(1, str(Path(__file__).resolve().parents[1]))
 from exact import MOST, bits_of, float_of, judged, residual  # noqa: E402
+from stored import store  # noqa: E402
 
-TOP = Path(__file__).resolve().parents[2] / "crates" / "judge_replay"
 SEED = 20261115
 
 ZERO = 0
@@ -229,7 +230,7 @@ class Maker:
         return self.out
 
 
-def main():
+def made():
     data, counts = bytearray(), Counter()
     for rows, system, vector, tolerances in Maker().all():
         refusal, row = judged(rows, system, vector, tolerances)
@@ -238,17 +239,7 @@ def main():
         floats = system + vector + tolerances
         data += struct.pack(f"<{len(floats)}Q", *floats)
     names = ("accepted", "rejected", "refused by 1", "refused by 5", "refused by 11", "differ")
-    stdout = "".join(f"{name} {counts[name]}\n" for name in names)
-    files = {TOP / "data" / "systems": bytes(data), TOP / "stdout": stdout.encode()}
-    if sys.argv[1:] == ["--check"]:
-        wrong = [str(p) for p, b in files.items() if p.read_bytes() != b]
-        print("\n".join(f"{p}: not what would be written" for p in wrong) or "as written")
-        sys.exit(bool(wrong))
-    for path, content in files.items():
-        path.parent.mkdir(parents=True, exist_ok=True)
-        path.write_bytes(content)
-    print(f"{sum(counts.values())} systems, {len(data)} bytes")
-    print(stdout, end="")
+    return bytes(data), "".join(f"{name} {counts[name]}\n" for name in names)
 
 
-main()
+store("judge_replay", "systems", *made())

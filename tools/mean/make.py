@@ -9,7 +9,10 @@ import sys
 from fractions import Fraction
 from pathlib import Path
 
-TOP = Path(__file__).resolve().parents[2] / "crates" / "mean_replay"
+sys.dont_write_bytecode = True
+sys.path.insert(0, str(Path(__file__).resolve().parents[1]))
+from stored import bits_of, float_of, store  # noqa: E402
+
 SEED = 20261115
 SIGN = 1 << 63
 ONE = 0x3FF0000000000000
@@ -18,14 +21,6 @@ GREATEST = 0x7FEFFFFFFFFFFFFF
 INFINITY = 0x7FF0000000000000
 LIMBS = 66
 COUNTS = 1 << 32
-
-
-def float_of(bits):
-    return struct.unpack("<d", struct.pack("<Q", bits))[0]
-
-
-def bits_of(x):
-    return struct.unpack("<Q", struct.pack("<d", x))[0]
 
 
 def fraction_of(bits):
@@ -179,17 +174,4 @@ class Maker:
         return data, "".join(f"{k} {n}\n" for k, n in tally.items()) + "differ 0\n"
 
 
-def main():
-    data, stdout = Maker().made()
-    files = {TOP / "data" / "sums": data, TOP / "stdout": stdout.encode()}
-    if sys.argv[1:] == ["--check"]:
-        same = all(p.exists() and p.read_bytes() == b for p, b in files.items())
-        print("same" if same else "differs")
-        sys.exit(0 if same else 1)
-    for p, b in files.items():
-        p.parent.mkdir(parents=True, exist_ok=True)
-        p.write_bytes(b)
-    print(stdout, end="")
-
-
-main()
+store("mean_replay", "sums", *Maker().made())

@@ -141,7 +141,7 @@ abbrev run : Bool → ℕ → ℕ → ℕ → List ℕ → result.Result
 run transient itl1 nodes srcs s =
     let n = nodes + srcs in
     let m = fives (n * (n + 1)) in
-    let y = fives (length s / 40) in
+    let y = fives (length s / bytes.recordBytes) in
     let w = fives (4 * (n + 1)) in
     engine.runOf (bench itl1) (engine.sizesOf transient nodes srcs s [] m m m (fives n) y w) s [] m m (fives n) y w
 

@@ -1,7 +1,8 @@
--- Refusals 1 to 10 in their order, and what holds where nothing is refused. Clients cite refusalOf, checkedOf, order, cells, records, limitsOf, Fine and fine.
+-- Refusals 1 to 10 in their order, and what holds where nothing is refused. Clients cite refusalOf, checkedOf, order, cells, records, limitsOf, Fine, fine and cond-none.
 use Prim.Native.Nat.{ℕ, zero, suc, _+_, _*_, _-_, _/_, _≤_, _<_}
 use mathlib.Core.Path.{_≡_, refl, ap}
-use mathlib.Core.Bool.{Bool, true, false, cond, _||_, _&&_}
+use mathlib.Core.Bool.{Bool, true, false, cond, _||_, _&&_, or-true}
+use mathlib.Mathlib.Data.Bool.Basic.{or-eq-false-eq-eq-false-and-eq-false as neither}
 use mathlib.Core.List.{List}
 use lib.Dec.{eqb, ltb}
 use borrow.Author.Tests.{eqb-true, eqb-false, ltb-true, ltb-false, lt-ltb}
@@ -10,7 +11,8 @@ use Rattle.options.specs.declared.Options.{Options}
 use Rattle.sheet.specs.declared.Limits.{Limits}
 use Rattle.sheet.specs.declared.Checked.{Checked}
 use Rattle.sheet.specs.declared.Checked.the-variants.{Clean, Faulty}
-use Rattle.sheet.specs.Check.{badSheet, badPoints, checkOf}
+use Rattle.sheet.specs.Record.{recordBytes}
+use Rattle.sheet.specs.Check.{pointBytes, badSheet, badPoints, checkOf}
 use Rattle.sheet.specs.Clean.{whole-sheet, whole-points}
 use Rattle.checks.specs.declared.Sizes.{Sizes}
 
@@ -23,7 +25,7 @@ abbrev pub cells : Sizes → ℕ
 cells z = order z * (order z + 1)
 
 abbrev pub records : Sizes → ℕ
-records z = z .sheet / 40
+records z = z .sheet / recordBytes
 
 -- 1: no node, or N above 48
 unfoldable pub badOrder : ℕ → ℕ → Bool
@@ -58,7 +60,7 @@ refusalOf o z =
 
 -- what 8, 9 and 10 compare with
 abbrev pub limitsOf : Sizes → Limits
-limitsOf z = record { nodes = z .nodes; sources = z .sources; points = z .points / 16 }
+limitsOf z = record { nodes = z .nodes; sources = z .sources; points = z .points / pointBytes }
 
 -- 1 to 5 with place 0, then the sheet's 6 to 10 with the record's
 unfoldable pub checkedOf : Options → Sizes → List ℕ → Checked
@@ -66,22 +68,14 @@ checkedOf o z sheet = cond (eqb (refusalOf o z) 0) (checkOf sheet (limitsOf z)) 
 
 -- ---- laws
 
-or-none : (a b : Bool) → (a || b) ≡ false → (a ≡ false) × (b ≡ false)
-or-none true b e = (e, absurd (let z : _≡_ {A = ℕ} 0 1 = cc in omega arith))
-or-none false b e = (refl, e)
-
 and-none : (a b : Bool) → (a && b) ≡ false → a ≡ true → b ≡ false
 and-none true b e h = e
 and-none false b e h = absurd (let z : _≡_ {A = ℕ} 0 1 = cc in omega arith)
 
-or-true : (a : Bool) → (a || true) ≡ true
-or-true true = refl
-or-true false = refl
-
 module _ (nodes sources : ℕ) where
   pub order-small : badOrder nodes sources ≡ false → nodes + sources ≤ 48
   unfolding badOrder
-  order-small e = ltb-false _ _ (or-none (eqb nodes 0) (ltb 48 (nodes + sources)) e .1)
+  order-small e = ltb-false _ _ (neither (eqb nodes 0) (ltb 48 (nodes + sources)) .0 e .1)
 
   -- the test in parts that do not wrap
   pub order-above : 48 < nodes → badOrder nodes sources ≡ true
@@ -104,7 +98,7 @@ module _ (nodes sources : ℕ) where
 pub record Fine (o : Options) (z : Sizes) : Type 0 where
   pub some : 0 < z .nodes
   pub small : order z ≤ 48
-  pub whole : 40 * records z ≡ z .sheet
+  pub whole : recordBytes * records z ≡ z .sheet
   pub few : records z ≤ 256
   pub spent : o .budget ≤ 1000000
   pub «base-room» : cells z ≤ z .base
@@ -114,7 +108,8 @@ pub record Fine (o : Options) (z : Sizes) : Type 0 where
   pub «memory-room» : records z ≤ z .memory
   pub «rows-room» : z .transient ≡ true → order z + 1 ≤ z .rows
 
-cond-none : (a : Bool) (k r : ℕ) → cond a (suc k) r ≡ 0 → (a ≡ false) × (r ≡ 0)
+-- a test of a chain that answers 0 does not hold
+pub cond-none : (a : Bool) (k r : ℕ) → cond a (suc k) r ≡ 0 → (a ≡ false) × (r ≡ 0)
 cond-none true k r e = absurd (let z : suc k ≡ 0 = e in omega arith)
 cond-none false k r e = (refl, e)
 
@@ -126,14 +121,14 @@ fine o z e =
     let r3 = cond-none (badPoints (z .points)) 2 _ (r2 .1) in
     let r4 = cond-none (badCounts o) 3 _ (r3 .1) in
     let r5 = cond-none (badRoom z) 4 _ (r4 .1) in
-    let o1 = or-none (eqb (z .nodes) 0) (ltb 48 (order z)) (r1 .0) in
+    let o1 = neither (eqb (z .nodes) 0) (ltb 48 (order z)) .0 (r1 .0) in
     let o2 = whole-sheet (z .sheet) (r2 .0) in
-    let o4 = or-none (highLimit o || eqb (o .budget) 0) (ltb 1000000 (o .budget)) (r4 .0) in
-    let t = or-none (shortMatrix z || shortVector z) (z .transient && ltb (z .rows) (order z + 1)) (r5 .0) in
-    let mv = or-none (shortMatrix z) (shortVector z) (t .0) in
-    let m = or-none (ltb (z .base) (cells z) || ltb (z .system) (cells z)) (ltb (z .elimination) (cells z)) (mv .0) in
-    let bs = or-none (ltb (z .base) (cells z)) (ltb (z .system) (cells z)) (m .0) in
-    let v = or-none (ltb (z .vector) (order z)) (ltb (z .memory) (records z)) (mv .1) in
+    let o4 = neither (highLimit o || eqb (o .budget) 0) (ltb 1000000 (o .budget)) .0 (r4 .0) in
+    let t = neither (shortMatrix z || shortVector z) (z .transient && ltb (z .rows) (order z + 1)) .0 (r5 .0) in
+    let mv = neither (shortMatrix z) (shortVector z) .0 (t .0) in
+    let m = neither (ltb (z .base) (cells z) || ltb (z .system) (cells z)) (ltb (z .elimination) (cells z)) .0 (mv .0) in
+    let bs = neither (ltb (z .base) (cells z)) (ltb (z .system) (cells z)) .0 (m .0) in
+    let v = neither (ltb (z .vector) (order z)) (ltb (z .memory) (records z)) .0 (mv .1) in
     record {
       some = omega (arith, eqb-false (z .nodes) 0 (o1 .0));
       small = ltb-false _ _ (o1 .1);

@@ -40,7 +40,7 @@ pub fn check(o: Options, z: Sizes, sheet: &[u8]) -> Checked
     let l = Limits {
         nodes: z.nodes,
         sources: z.sources,
-        points: z.points / 16,
+        points: z.points / sheet::POINT,
     };
     sheet::check_sheet(sheet, l)
 }
@@ -93,6 +93,6 @@ fn bad_room(z: Sizes) -> bool
     let n = z.nodes + z.sources;
     let cells = n * (n + 1);
     let matrices = (z.base < cells) | (z.system < cells) | (z.elimination < cells);
-    let vectors = (z.vector < n) | (z.memory < z.sheet / 40);
+    let vectors = (z.vector < n) | (z.memory < z.sheet / sheet::RECORD);
     matrices | vectors | (z.transient & (z.rows < n + 1))
 }

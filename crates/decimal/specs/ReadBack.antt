@@ -1,7 +1,7 @@
 -- Every float's decimal number reads back to the very float. Clients cite reads-back.
 use mathlib.Core.Path.{_≡_, refl, sym, ap, _∙_, subst}
 use mathlib.Core.Logic.{_⊎_, inl, inr, ⊎-elim}
-use mathlib.Core.Bool.{Bool, true, false, not, _&&_, cond}
+use mathlib.Core.Bool.{Bool, true, false, not, _&&_, cond, and-eq-true-iff as both}
 use Prim.Native.Nat.{ℕ, zero, suc, _+_, _-_, _*_, _/_, _%_, _^_, _≤_, _<_}
 use native.Mathlib.Nat.{le-trans, le-of-lt, lt-of-le-of-lt, lt-of-lt-of-le, mul-comm, mul-assoc, mul-right-comm, mul-pos, mul-le-mul, mul-le-mul-left, mul-le-mul-right, mul-lt-mul-of-pos-right, mod-lt, div-mul-le-self, div-add-mod', lt-div-mul-add, le-div-iff-mul-le, pow-suc}
 use native.Mathlib.Omega.{arith}
@@ -167,19 +167,11 @@ own-inside b m narrow h k near =
 
 inside-least : (s : Span) (d : ℕ) → insideOf s d ≡ true → s .least ≤ d
 unfolding insideOf
-inside-least s d = go (leb (s .least) d) refl
-  where
-    go : (c : Bool) → leb (s .least) d ≡ c → (c && leb d (s .most)) ≡ true → s .least ≤ d
-    go true e h = leb-true (s .least) d e
-    go false e h = absurd (let z : _≡_ {A = ℕ} 0 1 = cc in omega arith)
+inside-least s d h = leb-true (s .least) d (both (leb (s .least) d) (leb d (s .most)) .0 h .0)
 
 inside-most : (s : Span) (d : ℕ) → insideOf s d ≡ true → d ≤ s .most
 unfolding insideOf
-inside-most s d = go (leb (s .least) d)
-  where
-    go : (c : Bool) → (c && leb d (s .most)) ≡ true → d ≤ s .most
-    go true h = leb-true d (s .most) h
-    go false h = absurd (let z : _≡_ {A = ℕ} 0 1 = cc in omega arith)
+inside-most s d h = leb-true d (s .most) (both (leb (s .least) d) (leb d (s .most)) .0 h .1)
 
 -- ---- edges in units of 2 ^ -1074, over 10 ^ 326
 

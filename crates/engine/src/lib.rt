@@ -131,7 +131,7 @@ fn analysis(
     };
     let n = nodes + sources;
     let cells = n * (n + 1);
-    let records = sheet.len() / 40;
+    let records = sheet.len() / sheet::RECORD;
     let c = work::run_in(
         o,
         nodes,

@@ -1,6 +1,6 @@
 -- A product goes to the side of its sign, and the other side stays; what the check found, and the rows that are left. Assumes nothing.
-use mathlib.Core.Path.{_≡_, refl, sym, ap, _∙_, subst}
-use mathlib.Core.Bool.{Bool, true, false, cond, not, _&&_, Bool·beq}
+use mathlib.Core.Path.{_≡_, refl, ap, _∙_}
+use mathlib.Core.Bool.{Bool, true, false, cond, not, _&&_, Bool·beq, and-eq-true-iff as both}
 use mathlib.Core.List.{List}
 use Prim.Native.Nat.{ℕ, _+_, _*_, _^_, _<_}
 use native.Mathlib.Omega.{arith}
@@ -42,10 +42,6 @@ pub record MayAdd (p m : List ℕ) (x y : Float) : Type 0 where
   pub first : T (finite x)
   pub second : T (finite y)
 
-both : (a b : Bool) → (a && b) ≡ true → (a ≡ true) × (b ≡ true)
-both true b e = (refl, e)
-both false b e = absurd (subst T (sym e) tt)
-
 only-added : (a b c : Bool) → cond a (cond b (cond c Added NoRoom) NotFinite) WrongLength ≡ Added → (a ≡ true) × (b ≡ true) × (c ≡ true)
 only-added true true true e = (refl, refl, refl)
 only-added true true false e = absurd (let z : _≡_ {A = ℕ} 0 1 = cc in omega arith)
@@ -56,9 +52,9 @@ pub may-add : (p m : List ℕ) (x y : Float) → checkOf p m x y ≡ Added → M
 unfolding checkOf
 may-add p m x y e =
     let a = only-added (isRow p && isRow m) (finite x && finite y) (hasRoom p && hasRoom m) e in
-    let r = both (isRow p) (isRow m) (a .0) in
-    let f = both (finite x) (finite y) (a .1) in
-    let h = both (hasRoom p) (hasRoom m) (a .2) in
+    let r = both (isRow p) (isRow m) .0 (a .0) in
+    let f = both (finite x) (finite y) .0 (a .1) in
+    let h = both (hasRoom p) (hasRoom m) .0 (a .2) in
     record {
       plus = record { limbs = eqb-true (length p) 66 (r .0); room = ltb-true (value p) (2 ^ 4223) (h .0) };
       minus = record { limbs = eqb-true (length m) 66 (r .1); room = ltb-true (value m) (2 ^ 4223) (h .1) };

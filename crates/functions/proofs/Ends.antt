@@ -1,6 +1,6 @@
 -- The tests by which ln and sin tell the inputs at which they take no sum: zeros, negatives, infinities, NaN, and for sin what lies beyond 2 ^ 20. Assumes nothing.
 use mathlib.Core.Path.{_≡_, refl, sym, ap, _∙_, subst}
-use mathlib.Core.Bool.{Bool, true, false, not, cond, true≢false, _&&_, _||_, Bool·beq}
+use mathlib.Core.Bool.{Bool, true, false, not, cond, true≢false, _||_, Bool·beq, and-eq-true-iff as both}
 use Prim.Native.Nat.{ℕ, zero, suc, _+_, _*_, _^_, _≤_, _<_}
 use native.Mathlib.Omega.{arith}
 use lib.IntN.{pos}
@@ -67,11 +67,7 @@ pub ln-zero : (x : Float) → eq x zero· ≡ true → inf true ≡ lnOf x
 unfolding eq lnOf
 ln-zero nan h = absurd (true≢false (sym h))
 ln-zero (inf s) h = absurd (true≢false (sym h))
-ln-zero (fin s m e) h = sym (ap (λ (b : Bool). cond b (inf true) (cond s nan (lnPositive (fin s m e)))) (eq-eqb m 0 (no-digit m (up e) (down e) (up-pos e) (eqb-true (m * up e * 1) (0 * 1 * down e) (first (eqb (m * up e * 1) (0 * 1 * down e)) (Bool·beq s false || eqb (m * up e * 1) 0) h)))))
-  where
-    first : (a b : Bool) → (a && b) ≡ true → a ≡ true
-    first true b k = refl
-    first false b k = k
+ln-zero (fin s m e) h = sym (ap (λ (b : Bool). cond b (inf true) (cond s nan (lnPositive (fin s m e)))) (eq-eqb m 0 (no-digit m (up e) (down e) (up-pos e) (eqb-true (m * up e * 1) (0 * 1 * down e) (both (eqb (m * up e * 1) (0 * 1 * down e)) (Bool·beq s false || eqb (m * up e * 1) 0) .0 h .0)))))
 
 pub ln-none : (x : Float) → lt zero· x ≡ false → eq x zero· ≡ false → nan ≡ lnOf x
 unfolding lt eq lnOf

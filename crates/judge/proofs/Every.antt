@@ -1,30 +1,21 @@
 -- A test that every entry of a list passes, by a loop that stops at the first that fails. Assumes nothing.
-use mathlib.Core.Path.{_≡_, refl, sym, ap, subst}
-use mathlib.Core.Bool.{Bool, true, false, _&&_}
+use mathlib.Core.Path.{_≡_, sym, ap, subst}
+use mathlib.Core.Bool.{Bool, true, false, _&&_, and-eq-true-iff as both}
 use mathlib.Core.List.{List, [], _∷_}
 use Prim.Native.Nat.{ℕ, zero, suc, _+_, _≤_, _<_}
 use native.Mathlib.Nat.{not-suc-le-zero, le-of-suc-le-suc}
 use native.Mathlib.Numerals.{add-one}
-use lib.Dec.{T}
 use lib.ListN.{length, getD, take, drop, drop-of-length-le}
 use lib.Seq.{drop-cons, getD-take, length-take-le}
 use lib.Ieee.{Float}
 use Rattle.judge.specs.Judge.{every}
 
-pub first : (a b : Bool) → (a && b) ≡ true → a ≡ true
-first true b e = refl
-first false b e = e
-
-second : (a b : Bool) → (a && b) ≡ true → b ≡ true
-second true b e = e
-second false b e = absurd (subst T (sym e) tt)
-
 module _ (p : Float → Bool) (d : Float) where
   -- every entry passes: the one at i does
   every-at : (xs : List Float) (i : ℕ) → every p xs ≡ true → i < length xs → p (getD xs i d) ≡ true
   every-at [] i e h = absurd (not-suc-le-zero h)
-  every-at (x ∷ xs) zero e h = first (p x) (every p xs) e
-  every-at (x ∷ xs) (suc i) e h = every-at xs i (second (p x) (every p xs) e) (le-of-suc-le-suc h)
+  every-at (x ∷ xs) zero e h = both (p x) (every p xs) .0 e .0
+  every-at (x ∷ xs) (suc i) e h = every-at xs i (both (p x) (every p xs) .0 e .1) (le-of-suc-le-suc h)
 
   -- the same of the first k
   pub front-at : (xs : List Float) (k i : ℕ) → every p (take k xs) ≡ true → k ≤ length xs → i < k → p (getD xs i d) ≡ true

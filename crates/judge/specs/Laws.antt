@@ -1,6 +1,7 @@
 -- Exactly when the judge accepts, names a row, or refuses, over whole numbers. Clients cite Within, FirstBeyond, no-refusal, no-refusal-only, refusal-is, accepts, accepts-only, rejects, rejects-only.
 use mathlib.Core.Path.{_≡_, refl, sym, ap, _∙_, subst}
-use mathlib.Core.Bool.{Bool, true, false, cond, _&&_, _||_}
+use mathlib.Core.Bool.{Bool, true, false, cond, _||_, and-eq-true-iff as both}
+use mathlib.Mathlib.Data.Bool.Basic.{or-eq-false-eq-eq-false-and-eq-false as neither}
 use mathlib.Core.List.{List}
 use Prim.Native.Nat.{ℕ, zero, suc, _+_, _*_, _≤_, _<_}
 use native.Mathlib.Omega.{arith}
@@ -106,16 +107,8 @@ pub record AtMost (e : Exact) (t : Float) : Type 0 where
   pub above : e .plus ≤ e .minus + size t
   pub below : e .minus ≤ e .plus + size t
 
-both : (a b : Bool) → (a && b) ≡ true → (a ≡ true) × (b ≡ true)
-both true b e = (refl, e)
-both false b e = absurd (subst T (sym e) tt)
-
-neither : (a b : Bool) → (a || b) ≡ false → (a ≡ false) × (b ≡ false)
-neither true b e = absurd (subst T e tt)
-neither false b e = (refl, e)
-
 at-most : (e : Exact) (t : Float) → within e t ≡ true → AtMost e t
-at-most e t h = let b = both (leb (e .plus) (e .minus + size t)) (leb (e .minus) (e .plus + size t)) h in record { above = leb-true _ _ (b .0); below = leb-true _ _ (b .1) }
+at-most e t h = let b = both (leb (e .plus) (e .minus + size t)) (leb (e .minus) (e .plus + size t)) .0 h in record { above = leb-true _ _ (b .0); below = leb-true _ _ (b .1) }
 
 is-within : (e : Exact) (t : Float) → AtMost e t → within e t ≡ true
 is-within e t h = rw (le-leb (e .plus) (e .minus + size t) (h .above), le-leb (e .minus) (e .plus + size t) (h .below))
@@ -174,11 +167,11 @@ module _ (n : ℕ) (m x t : List Float) where
       let p = not-given (eqb n 0 || ltb 48 n) 1 _ (omega arith) e in
       let q = not-given (ltb (length m) (n * (n + 1)) || (ltb (length x) n || ltb (length t) n)) 5 _ (omega arith) (p .1) in
       let r = not-else _ 11 (omega arith) (q .1) in
-      let u = neither (eqb n 0) (ltb 48 n) (p .0) in
-      let v = neither (ltb (length m) (n * (n + 1))) _ (q .0) in
-      let w = neither (ltb (length x) n) (ltb (length t) n) (v .1) in
-      let y = both (every (allowed false) (take (n * (n + 1)) m)) _ r in
-      let z = both (every (allowed false) (take n x)) (every (allowed true) (take n t)) (y .1) in
+      let u = neither (eqb n 0) (ltb 48 n) .0 (p .0) in
+      let v = neither (ltb (length m) (n * (n + 1))) _ .0 (q .0) in
+      let w = neither (ltb (length x) n) (ltb (length t) n) .0 (v .1) in
+      let y = both (every (allowed false) (take (n * (n + 1)) m)) _ .0 r in
+      let z = both (every (allowed false) (take n x)) (every (allowed true) (take n t)) .0 (y .1) in
       record {
         some = above-zero n (eqb-false n 0 (u .0));
         rows = record { most = ltb-false 48 n (u .1); system = ltb-false _ _ (v .0); vector = ltb-false _ _ (w .0); finite-system = y .0; finite-vector = z .0 };

@@ -1,7 +1,7 @@
 -- An element without a fault has its numbers in range. Clients cite Inside and inside-of.
 use Prim.Native.Nat.{ℕ, _<_, _≤_}
 use mathlib.Core.Path.{_≡_, refl}
-use mathlib.Core.Bool.{Bool, true, false, _&&_}
+use mathlib.Core.Bool.{Bool, true, false, and-eq-true-iff as both}
 use mathlib.Core.List.{List, [], _∷_}
 use native.Mathlib.Omega.{arith}
 use borrow.Author.Tests.{ltb-true, leb-true}
@@ -23,13 +23,9 @@ pub record Inside (l : Limits) (e : Element) : Type 0 where
   pub sources : Each (λ (s : SourceId). s .0 < l .sources) (sourcesOf e)
   pub points : pointsOf e ≤ l .points
 
-both : {b t : Bool} → (b && t) ≡ true → (b ≡ true) × (t ≡ true)
-both {b = true} h = (refl, h)
-both {b = false} h = absurd (let z : _≡_ {A = ℕ} 0 1 = cc in omega arith)
-
 each : {A : Type 0} (t : A → Bool) (P : A → Type 0) → ((x : A) → t x ≡ true → P x) → (xs : List A) → every t xs ≡ true → Each P xs
 each t P f [] h = tt
-each t P f (x ∷ xs) h = let k = both {b = t x} h in (f x (k .0), each t P f xs (k .1))
+each t P f (x ∷ xs) h = let k = both (t x) (every t xs) .0 h in (f x (k .0), each t P f xs (k .1))
 
 none : (a b c : Bool) → _≡_ {A = ℕ} (lowest a b c) 0 → (a ≡ true) × (b ≡ true) × (c ≡ true)
 none false b c h = absurd (omega arith)

@@ -5,7 +5,7 @@ mod range;
 mod record;
 
 ghost use mathlib.Core.Path.{_≡_};
-ghost use lib.ListN.{length};
+ghost use lib.ListN.{length, getD};
 ghost use Rattle.sheet.specs.Record.{recordAt, kindAt, decodeOf};
 ghost use Rattle.sheet.specs.Row.{rowOf};
 ghost use Rattle.sheet.specs.Check.{checkOf, recordsOf, refusalOf, numberOf, placeOf, badSheet, badPoints};
@@ -106,13 +106,13 @@ pub struct Limits {
 }
 
 // The bytes of a record.
-const RECORD: usize = 40;
+pub const RECORD: usize = 40;
 
 // The most records in a sheet.
 const RECORDS: usize = 256;
 
 // The bytes of a point: time, level.
-const POINT: usize = 16;
+pub const POINT: usize = 16;
 
 // The most points in a call.
 const POINTS: usize = 1024;
@@ -121,7 +121,13 @@ const POINTS: usize = 1024;
 pub fn decode(bytes: &[u8]) -> Decoded
     ensures { λ r. ⌜ r ≡ decodeOf (now (bytes .entry)) ⌝ }
 {
-    let kind = record::byte_at(bytes, 0);
+    decode_as(record::byte_at(bytes, 0), bytes)
+}
+
+// The element of a record's bytes, told their first byte; where that is a constant, the compiler leaves out the other kinds.
+fn decode_as(kind: u8, bytes: &[u8]) -> Decoded
+    ensures { λ r. ⌜ (kind ≡ getD (now (bytes .entry)) 0 0 → r ≡ decodeOf (now (bytes .entry))) ⌝ }
+{
     let d = record::element_of(kind, bytes);
     let Decoded::Good(_) = d else {
         return d;
@@ -152,6 +158,13 @@ pub fn element_at(sheet: &[u8], i: usize) -> Decoded
     ensures { λ r. ⌜ r ≡ decodeOf (recordAt (now (sheet .entry)) i) ⌝ }
 {
     decode(record_at(sheet, i))
+}
+
+// The element of record i, for a caller that knows its kind byte already.
+pub fn element_as(sheet: &[u8], i: usize, kind: u8) -> Decoded
+    ensures { λ r. ⌜ (kindAt (now (sheet .entry)) i ≡ kind → r ≡ decodeOf (recordAt (now (sheet .entry)) i)) ⌝ }
+{
+    decode_as(kind, record_at(sheet, i))
 }
 
 // The kind byte of record i, which tells a pass whether it has to decode the record; past the sheet's end it is 0.

@@ -14,12 +14,13 @@ use lib.Ieee.{Float}
 use lib.Ieee.Scale.{finite}
 use Rattle.num.specs.Floats.{nought}
 use Rattle.options.specs.declared.Options.{Options}
+use Rattle.sheet.specs.Record.{recordBytes}
 use Rattle.sheet.specs.declared.Checked.{Checked}
 use Rattle.sheet.specs.declared.Checked.the-variants.{Clean, Faulty}
 use Rattle.sheet.specs.Check.{checkOf, badSheet, badPoints}
 use Rattle.sheet.specs.Clean.{faulty-at}
 use Rattle.checks.specs.declared.Sizes.{Sizes}
-use Rattle.checks.specs.Checks.{limitsOf, badOrder, badCounts, badRoom, checkedOf, refusalOf as refusalOfOne}
+use Rattle.checks.specs.Checks.{limitsOf, badOrder, badCounts, badRoom, checkedOf, refusalOf as refusalOfOne, cond-none}
 use Rattle.steps.specs.Counters.{verdictOf}
 use Rattle.steps.specs.Laws.{settles, «runs-out», diverges, «at-diode», «at-sine»}
 use Rattle.machine.specs.OneVerdict.{Verdict, ended, spent, ends as «ends-so», fails as «fails-so»}
@@ -33,7 +34,7 @@ use Rattle.spreads.specs.declared.Spread.the-variants.{Done}
 use Rattle.spreads.specs.Each.{each-at, row}
 use Rattle.spreads.specs.Single.{Single, markOf, singleIn, alone, jobSizes, sheetAt, single}
 use Rattle.spreads.specs.Settled.{single-finite}
-use Rattle.spreads.specs.Refusals.{bytes, oneJob, refusalOf, Fine, fine, cond-none}
+use Rattle.spreads.specs.Refusals.{bytes, oneJob, refusalOf, Fine, fine}
 use Rattle.spreads.specs.Tally.{howMany, reportOf}
 use Rattle.spreads.specs.Report.{summed, summed-same, adds-up, settled-many, Extremes, extremes}
 use Rattle.spreads.specs.Spreads.{jobOf, numberAt, valueAt, Left, spreadsOf, call-done}
@@ -49,7 +50,7 @@ least-room : (nodes sources sheet points : ℕ) → badRoom (jobSizes nodes sour
 unfolding badRoom
 least-room nodes sources sheet points =
     let n = nodes + sources in
-    rw (le-ltb (n * (n + 1)) (n * (n + 1)) (omega arith), le-ltb n n (omega arith), le-ltb (sheet / 40) (sheet / 40) (omega arith))
+    rw (le-ltb (n * (n + 1)) (n * (n + 1)) (omega arith), le-ltb n n (omega arith), le-ltb (sheet / recordBytes) (sheet / recordBytes) (omega arith))
 
 none-refused : (o : Options) (z : Sizes) → refusalOfOne o z ≡ 0 → refusalOfOne o (jobSizes (z .nodes) (z .sources) (z .sheet) (z .points)) ≡ 0
 unfolding refusalOfOne
@@ -80,7 +81,7 @@ single-number o nodes sources sheet points e = alone-number o (jobSizes nodes so
 
 -- "equal to running the jobs one by one with fresh diode memory": a DC call on this sheet, with any buffers that are long enough and zeros for memory, writes the same mark, and the same vector where it runs
 module _ (o : Options) (nodes sources : ℕ) (sheet points : List ℕ) (b s e v y : List Float) (room : refusalOfOne o (sizesOf false nodes sources sheet points b s e v y []) ≡ 0)
-    (fresh : take (length sheet / 40) y ≡ zeros (length sheet / 40)) where
+    (fresh : take (length sheet / recordBytes) y ≡ zeros (length sheet / recordBytes)) where
   abbrev z : Sizes
   z = sizesOf false nodes sources sheet points b s e v y []
 
@@ -88,7 +89,7 @@ module _ (o : Options) (nodes sources : ℕ) (sheet points : List ℕ) (b s e v 
   z₁ = jobSizes nodes sources (length sheet) (length points)
 
   same-last : lastOf o z sheet points y [] ≡ lastOf o z₁ sheet points (zeros (z₁ .memory)) []
-  same-last = rw (fresh, take-all (length sheet / 40) (zeros (length sheet / 40)) (rw (length-replicate (length sheet / 40) nought) (omega arith)))
+  same-last = rw (fresh, take-all (length sheet / recordBytes) (zeros (length sheet / recordBytes)) (rw (length-replicate (length sheet / recordBytes) nought) (omega arith)))
 
   same-check : checkedOf o z₁ sheet ≡ checkedOf o z sheet
   same-check = check-only o z₁ sheet (none-refused o z room) ∙ sym (check-only o z sheet room)

@@ -1,14 +1,15 @@
 -- The refusals of the whole call in their order, and what holds where nothing is refused. Clients cite refusalOf, oneJob, Fine and fine.
-use Prim.Native.Nat.{ℕ, suc, _+_, _-_, _*_, _/_, _%_, _≤_, _<_}
+use Prim.Native.Nat.{ℕ, _+_, _-_, _*_, _/_, _%_, _≤_, _<_}
 use mathlib.Core.Path.{_≡_, refl, sym, _∙_}
 use mathlib.Core.Bool.{Bool, true, false, cond, not, _||_}
+use mathlib.Mathlib.Data.Bool.Basic.{or-eq-false-eq-eq-false-and-eq-false as neither}
 use lib.Dec.{eqb, ltb, leb}
-use borrow.Author.Tests.{eqb-true, eqb-false, ltb-false, leb-true, leb-false, lt-leb}
+use borrow.Author.Tests.{eqb-true, eqb-false, ltb-false, leb-true, leb-false, lt-leb, not-false}
 use native.Mathlib.Nat.{mod-add-div, zero-add}
 use native.Mathlib.Omega.{arith}
 use Rattle.options.specs.declared.Options.{Options}
 use Rattle.checks.specs.declared.Sizes.{Sizes}
-use Rattle.checks.specs.Checks.{badOrder, refusalOf as refusalOfOne, Fine as FineOne, fine as fine-one}
+use Rattle.checks.specs.Checks.{badOrder, refusalOf as refusalOfOne, Fine as FineOne, fine as fine-one, cond-none}
 use Rattle.spreads.specs.declared.refusals.Lent.{Lent}
 
 -- N
@@ -65,18 +66,6 @@ refusalOf o z =
 
 -- ---- laws
 
-or-none : (a b : Bool) → (a || b) ≡ false → (a ≡ false) × (b ≡ false)
-or-none true b e = (e, absurd (let z : _≡_ {A = ℕ} 0 1 = cc in omega arith))
-or-none false b e = (refl, e)
-
-not-none : (a : Bool) → not a ≡ false → a ≡ true
-not-none true e = refl
-not-none false e = absurd (let z : _≡_ {A = ℕ} 0 1 = cc in omega arith)
-
-pub cond-none : (a : Bool) (k r : ℕ) → cond a (suc k) r ≡ 0 → (a ≡ false) × (r ≡ 0)
-cond-none true k r e = absurd (let z : suc k ≡ 0 = e in omega arith)
-cond-none false k r e = (refl, e)
-
 -- the test of the unknown in parts that do not wrap
 module _ (unknown nodes sources : ℕ) where
   pub below-nodes : unknown < nodes → leb (nodes + sources) unknown ≡ false
@@ -100,8 +89,8 @@ pub record Chosen (jobs unknown n : ℕ) : Type 0 where
 pub chosen : (jobs unknown nodes sources : ℕ) → badJobs jobs unknown nodes sources ≡ false → Chosen jobs unknown (nodes + sources)
 unfolding badJobs
 chosen jobs unknown nodes sources e =
-    let a = or-none (eqb jobs 0 || ltb 256 jobs) (leb (nodes + sources) unknown) e in
-    let b = or-none (eqb jobs 0) (ltb 256 jobs) (a .0) in
+    let a = neither (eqb jobs 0 || ltb 256 jobs) (leb (nodes + sources) unknown) .0 e in
+    let b = neither (eqb jobs 0) (ltb 256 jobs) .0 (a .0) in
     record {
       some = omega (arith, eqb-false jobs 0 (b .0));
       few = ltb-false _ _ (b .1);
@@ -137,13 +126,13 @@ fine o z e =
     let r1 = cond-none (badOrder (z .nodes) (z .sources)) 0 _ (r13 .1) in
     let r2 = cond-none (uneven z) 1 _ (r1 .1) in
     let r5 = last-none (refusalOfOne o (oneJob z)) (shortResults z) (r2 .1) in
-    let t = or-none (ltb (z .vectors) (z .jobs * order z) || shortLists z) (shortSums z) (r5 .1) in
-    let v = or-none (ltb (z .vectors) (z .jobs * order z)) (shortLists z) (t .0) in
-    let l = or-none (ltb (z .numbers) (z .jobs) || ltb (z .places) (z .jobs)) (ltb (z .passes) (z .jobs)) (v .1) in
-    let n = or-none (ltb (z .numbers) (z .jobs)) (ltb (z .places) (z .jobs)) (l .0) in
-    let s = or-none (ltb (z .counts) 27 || ltb (z .plus) 66) (ltb (z .minus) 66) (t .1) in
-    let p = or-none (ltb (z .counts) 27) (ltb (z .plus) 66) (s .0) in
-    let m : z .sheets % z .jobs ≡ 0 = eqb-true _ 0 (not-none (eqb (z .sheets % z .jobs) 0) (r2 .0)) in
+    let t = neither (ltb (z .vectors) (z .jobs * order z) || shortLists z) (shortSums z) .0 (r5 .1) in
+    let v = neither (ltb (z .vectors) (z .jobs * order z)) (shortLists z) .0 (t .0) in
+    let l = neither (ltb (z .numbers) (z .jobs) || ltb (z .places) (z .jobs)) (ltb (z .passes) (z .jobs)) .0 (v .1) in
+    let n = neither (ltb (z .numbers) (z .jobs)) (ltb (z .places) (z .jobs)) .0 (l .0) in
+    let s = neither (ltb (z .counts) 27 || ltb (z .plus) 66) (ltb (z .minus) 66) .0 (t .1) in
+    let p = neither (ltb (z .counts) 27) (ltb (z .plus) 66) .0 (s .0) in
+    let m : z .sheets % z .jobs ≡ 0 = eqb-true _ 0 (not-false (eqb (z .sheets % z .jobs) 0) (r2 .0)) in
     record {
       jobs = chosen _ _ _ _ (r13 .0);
       even = sym (zero-add (z .jobs * bytes z)) ∙ (rw m at (mod-add-div (z .sheets) (z .jobs)));

@@ -8,6 +8,7 @@ use lib.ListN.{length, take, drop, set, length-drop}
 use lib.Seq.{length-take-le}
 use lib.Ieee.{Float}
 use Rattle.options.specs.declared.Options.{Options}
+use Rattle.sheet.specs.Record.{recordBytes}
 use Rattle.engine.specs.Engine.{sizesOf}
 use Rattle.spreads.specs.declared.runs.Mark.{Mark}
 use Rattle.spreads.specs.Each.{each, joined, each-more, joined-more}
@@ -28,7 +29,7 @@ pub record Sized (bytes n base system elimination memory : ℕ) : Type 0 where
   pub bases : base ≡ n * (n + 1)
   pub systems : system ≡ n * (n + 1)
   pub works : elimination ≡ n * (n + 1)
-  pub memories : memory ≡ bytes / 40
+  pub memories : memory ≡ bytes / recordBytes
 
 -- what one job leaves
 pub record Ran : Type 0 where
@@ -75,7 +76,7 @@ placed o nodes sources bytes j u w sheets points b s e y vectors v m hu hw hs hv
     let q₁ = rw (hu, hw) at q in
     let ls : length (take bytes (drop (j * bytes) sheets)) ≡ bytes = part bytes (j * bytes) sheets hs in
     let lv : length (take n (drop (j * n) vectors)) ≡ n = part n (j * n) vectors hv in
-    let ly : length y ≡ length (take bytes (drop (j * bytes) sheets)) / 40 = rw ls (z .memories) in
+    let ly : length y ≡ length (take bytes (drop (j * bytes) sheets)) / recordBytes = rw ls (z .memories) in
     let q₂ = rw (z .bases, z .systems, z .works, lv, ly) at q₁ in
     rw hw (ap (λ (x : Single). ranOf (x .mark) (take (j * n) vectors ++ (x .vector ++ drop n (drop (j * n) vectors)))) q₂)
   where

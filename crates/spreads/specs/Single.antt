@@ -9,6 +9,7 @@ use lib.Ieee.{Float}
 use Rattle.num.specs.Floats.{nought}
 use Rattle.loops.specs.Loop.{zerosLike}
 use Rattle.options.specs.declared.Options.{Options}
+use Rattle.sheet.specs.Record.{recordBytes}
 use Rattle.sheet.specs.declared.Checked.{Checked}
 use Rattle.sheet.specs.declared.Checked.the-variants.{Clean, Faulty}
 use Rattle.checks.specs.declared.Sizes.{Sizes}
@@ -54,7 +55,7 @@ jobSizes nodes sources sheet points =
       system = n * (n + 1);
       elimination = n * (n + 1);
       vector = n;
-      memory = sheet / 40;
+      memory = sheet / recordBytes;
       rows = 0;
       transient = false;
     }

@@ -8,6 +8,7 @@ use lib.ListN.{length, getD, drop}
 use lib.Ieee.{Float, nan}
 use borrow.Author.Tests.{ne-eqb}
 use Rattle.options.specs.declared.Options.{Options}
+use Rattle.sheet.specs.Record.{recordBytes}
 use Rattle.exact.specs.Limbs.{limbsOf}
 use Rattle.spreads.specs.declared.Report.{Report}
 use Rattle.spreads.specs.declared.Spread.{Spread}
@@ -93,7 +94,7 @@ pub record Scratched (o : Options) (z : Lent) (b s e y b′ s′ e′ y′ : Lis
   pub base : drop (order z * (order z + 1)) b′ ≡ drop (order z * (order z + 1)) b
   pub system : drop (order z * (order z + 1)) s′ ≡ drop (order z * (order z + 1)) s
   pub elimination : drop (order z * (order z + 1)) e′ ≡ drop (order z * (order z + 1)) e
-  pub memory : drop (bytes z / 40) y′ ≡ drop (bytes z / 40) y
+  pub memory : drop (bytes z / recordBytes) y′ ≡ drop (bytes z / recordBytes) y
   pub kept : (refusalOf o z ≡ 0 → ⊥) → (b′ ≡ b) × (s′ ≡ s) × (e′ ≡ e) × (y′ ≡ y)
 
 -- ---- laws

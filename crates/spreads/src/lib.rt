@@ -70,37 +70,78 @@ pub fn spreads(
         plus: plus.len(),
         minus: minus.len(),
     };
+    answer(
+        o,
+        z,
+        sheets,
+        points,
+        base,
+        system,
+        elimination,
+        memory,
+        vectors,
+        numbers,
+        places,
+        passes,
+        counts,
+        plus,
+        minus,
+    )
+}
+
+// The same with the counts and the lengths in z: refused, or every job run and the report made.
+fn answer(
+    o: Options,
+    z: Lent,
+    sheets: &[u8],
+    points: &[u8],
+    base: &mut [f64],
+    system: &mut [f64],
+    elimination: &mut [f64],
+    memory: &mut [f64],
+    vectors: &mut [f64],
+    numbers: &mut [u64],
+    places: &mut [u64],
+    passes: &mut [u64],
+    counts: &mut [u64],
+    plus: &mut [u64],
+    minus: &mut [u64],
+) -> Spread
+    requires { ⌜ z ≡ lentOf (z .jobs) (z .nodes) (z .sources) (z .unknown) (now sheets) (now points) (now base) (now system) (now elimination) (now memory) (now vectors) (now numbers) (now places) (now passes) (now counts) (now plus) (now minus) ⌝ }
+    ensures all { λ r. ⌜ leftOf r (now (vectors .exit)) (now (numbers .exit)) (now (places .exit)) (now (passes .exit)) (now (counts .exit)) (now (plus .exit)) (now (minus .exit)) ≡ spreadsOf o z (now (sheets .entry)) (now (points .entry)) (now (vectors .entry)) (now (numbers .entry)) (now (places .entry)) (now (passes .entry)) (now (counts .entry)) (now (plus .entry)) (now (minus .entry)) ⌝ }
+    ensures scratch { λ r. ⌜ Scratched o z (now (base .entry)) (now (system .entry)) (now (elimination .entry)) (now (memory .entry)) (now (base .exit)) (now (system .exit)) (now (elimination .exit)) (now (memory .exit)) ⌝ }
+{
     let k = refusals::refusal(o, z);
     if k != 0 {
         return Spread::Refused(k);
     }
-    let n = nodes + sources;
+    let n = z.nodes + z.sources;
     let cells = n * (n + 1);
-    let bytes = sheets.len() / jobs;
+    let bytes = sheets.len() / z.jobs;
     runs::run_jobs(
         sheets,
         points,
-        jobs,
+        z.jobs,
         bytes,
-        nodes,
-        sources,
+        z.nodes,
+        z.sources,
         o,
         &mut base[..cells],
         &mut system[..cells],
         &mut elimination[..cells],
-        &mut memory[..bytes / 40],
+        &mut memory[..bytes / sheet::RECORD],
         vectors,
         numbers,
         places,
         passes,
     );
-    tally::count_all(numbers, jobs, counts);
+    tally::count_all(numbers, z.jobs, counts);
     Spread::Done(tally::sum_up(
         numbers,
         vectors,
-        jobs,
+        z.jobs,
         n,
-        unknown,
+        z.unknown,
         &mut plus[..LIMBS],
         &mut minus[..LIMBS],
     ))

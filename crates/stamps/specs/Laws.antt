@@ -2,7 +2,7 @@
 -- Clients cite joined and stamped-length. Assumes nothing.
 use Prim.Native.Nat.{ℕ, _+_, _*_, _<_, _≤_}
 use mathlib.Core.Path.{_≡_, refl, _∙_}
-use mathlib.Core.Bool.{Bool, true, false, _&&_, not, false≢true}
+use mathlib.Core.Bool.{Bool, true, false, not, and-eq-true-iff as both}
 use mathlib.Core.List.{List, [], _∷_, _++_}
 use native.Mathlib.Nat.{mul-le-mul}
 use native.Mathlib.Omega.{arith}
@@ -38,19 +38,15 @@ pub record Landed (n r c : ℕ) : Type 0 where
   pub column-in : c ≤ n
   pub small : n ≤ largest
 
-both : (a b : Bool) → (a && b) ≡ true → (a ≡ true) × (b ≡ true)
-both true b e = (refl, e)
-both false b e = absurd (false≢true e)
-
 above-zero : (k : ℕ) → not (eqb k 0) ≡ true → 0 < k
 above-zero k e = let h = eqb-false k 0 (not-true _ e) in omega arith
 
 pub landed : (n r c : ℕ) → lands n r c ≡ true → Landed n r c
 landed n r c e =
-    let h = both _ _ e in
-    let h₂ = both _ _ (h .1) in
-    let h₃ = both _ _ (h₂ .1) in
-    let h₄ = both _ _ (h₃ .1) in
+    let h = both _ _ .0 e in
+    let h₂ = both _ _ .0 (h .1) in
+    let h₃ = both _ _ .0 (h₂ .1) in
+    let h₄ = both _ _ .0 (h₃ .1) in
     record {
       row-live = above-zero r (h .0);
       column-live = above-zero c (h₂ .0);

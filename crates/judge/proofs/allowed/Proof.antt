@@ -1,7 +1,7 @@
 -- `judge::allowed` meets its contract.
 use borrow.Author.Needs.{needs}
-use mathlib.Core.Path.{_≡_, refl, sym, ap, _∙_}
-use mathlib.Core.Bool.{Bool, true, false, not, _&&_}
+use mathlib.Core.Path.{_≡_, sym, ap, _∙_}
+use mathlib.Core.Bool.{Bool, true, false, not, _&&_, and-true, and-false}
 use mathlib.Core.Logic.{⊎-elim}
 use lib.Ieee.{Float, lt}
 use lib.Ieee.Scale.{finite}
@@ -10,19 +10,11 @@ use Rattle.judge.specs.Judge.{allowed}
 use Rattle.judge.proofs.allowed.Statement.{statement}
 use Rattle.judge.proofs.allowed.Tie as tie
 
-last : (b : Bool) → (b && false) ≡ false
-last true = refl
-last false = refl
-
-all : (b : Bool) → (b && true) ≡ b
-all true = refl
-all false = refl
-
 below : (x : Float) (b : Bool) → b ≡ true → lt x nought ≡ true → false ≡ allowed b x
-below x b e f = rw e (sym (ap (λ (c : Bool). finite x && not c) f ∙ last (finite x)))
+below x b e f = rw e (sym (ap (λ (c : Bool). finite x && not c) f ∙ and-false (finite x)))
 
 not-below : (x : Float) (b : Bool) → b ≡ true → lt x nought ≡ false → finite x ≡ allowed b x
-not-below x b e f = rw e (sym (ap (λ (c : Bool). finite x && not c) f ∙ all (finite x)))
+not-below x b e f = rw e (sym (ap (λ (c : Bool). finite x && not c) f ∙ and-true (finite x)))
 
 plain : (x : Float) (b : Bool) → b ≡ false → finite x ≡ allowed b x
 plain x b e = rw e

@@ -1,7 +1,7 @@
 -- `judge::judge_rows` meets its contract. The invariant: the rows that are left say the same as all of them.
 use borrow.Author.Needs.{needs}
 use mathlib.Core.Path.{_≡_, sym, _∙_}
-use mathlib.Core.Bool.{true}
+use mathlib.Core.Bool.{true, and-eq-true-iff as both}
 use Prim.Native.Nat.{_-_, _≤_}
 use native.Mathlib.Omega.{arith}
 use lib.Ieee.{nan}
@@ -10,7 +10,7 @@ use denote.Ref.{now}
 use denote.Floats.{passes}
 use borrow.Author.Tests.{not-true, not-false}
 use Rattle.judge.specs.Judge.{«at», allowed, holds, named}
-use Rattle.judge.proofs.Every.{front-at, first}
+use Rattle.judge.proofs.Every.{front-at}
 use Rattle.judge.proofs.Places.{holding, failing, at-end, at-start}
 use Rattle.judge.proofs.judge_rows.Statement.{statement}
 use Rattle.judge.proofs.judge_rows.Tie as tie
@@ -29,7 +29,7 @@ row-holds-requires c κs =
     let s = c .before .before .before .before .before .before in
     let l = c .before .before .loop in
     let g = s .pre in
-    (g .rows, omega arith, passes _ (first (finite («at» (now (s .args .t)) (l .i))) _ (front-at (allowed true) nan (now (s .args .t)) (s .args .n) (l .i) (g .no-less) (g .tolerances) (omega arith))))
+    (g .rows, omega arith, passes _ (both (finite («at» (now (s .args .t)) (l .i))) _ .0 (front-at (allowed true) nan (now (s .args .t)) (s .args .n) (l .i) (g .no-less) (g .tolerances) (omega arith)) .0))
 
 returns : tie.Need-returns Inv-loop μ-loop
 returns c =
