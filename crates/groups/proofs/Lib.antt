@@ -2,3 +2,4 @@ pub mod Tags
 pub mod Walk
 pub mod Numbers
 pub mod Passed
+pub mod Listing

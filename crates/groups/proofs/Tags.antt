@@ -1,7 +1,7 @@
 -- The arm for all other kinds of a match on an element: what it tells of the tag, said of the kind. Assumes nothing.
 use Prim.Native.Nat.{ℕ, _+_}
 use mathlib.Core.Path.{_≡_, refl, sym, ap, _∙_}
-use mathlib.Core.Bool.{Bool, true, false, _&&_, false≢true}
+use mathlib.Core.Bool.{Bool, true, _&&_, and-eq-true-iff as both}
 use mathlib.Core.Logic.{inl, inr}
 use mathlib.Core.List.{List, [], _∷_}
 use types.Run.{OneOf}
@@ -30,15 +30,11 @@ abbrev pub allOutside : ℕ → ℕ → List ℕ → Bool
 allOutside low high [] = true
 allOutside low high (k ∷ ks) = outside low high (k + 1) && allOutside low high ks
 
-both : (a b : Bool) → (a && b) ≡ true → (a ≡ true) × (b ≡ true)
-both true b e = (refl, e)
-both false b e = absurd (false≢true e)
-
 one-of : (low high : ℕ) (ks : List ℕ) (x : ℕ) → OneOf ks x → allOutside low high ks ≡ true → outside low high (x + 1) ≡ true
 one-of low high [] x h e = absurd h
-one-of low high (k ∷ []) x h e = ap (λ (y : ℕ). outside low high (y + 1)) h ∙ both _ _ e .0
-one-of low high (k ∷ (k′ ∷ ks)) x (inl h) e = ap (λ (y : ℕ). outside low high (y + 1)) h ∙ both _ _ e .0
-one-of low high (k ∷ (k′ ∷ ks)) x (inr h) e = one-of low high (k′ ∷ ks) x h (both (outside low high (k + 1)) (allOutside low high (k′ ∷ ks)) e .1)
+one-of low high (k ∷ []) x h e = ap (λ (y : ℕ). outside low high (y + 1)) h ∙ both _ _ .0 e .0
+one-of low high (k ∷ (k′ ∷ ks)) x (inl h) e = ap (λ (y : ℕ). outside low high (y + 1)) h ∙ both _ _ .0 e .0
+one-of low high (k ∷ (k′ ∷ ks)) x (inr h) e = one-of low high (k′ ∷ ks) x h (both (outside low high (k + 1)) (allOutside low high (k′ ∷ ks)) .0 e .1)
 
 pub other-kind : (low high : ℕ) (ks : List ℕ) (e : Element) → OneOf ks (tagOf the-type e) → allOutside low high ks ≡ true → outside low high (kindOf e) ≡ true
 other-kind low high ks e h t = ap (outside low high) (sym (kind-tag e)) ∙ one-of low high ks (tagOf the-type e) h t

@@ -1,20 +1,20 @@
 -- Laws of a pass's stamping: no length changes, its verdicts are 0, 22 and 26, and the memory of a record that is no diode stays. Assumes nothing.
--- Clients cite base-length, Fine, fine, memory-stays and no-diodes.
+-- Clients cite Fine, fine, memory-stays and no-diodes.
 use Prim.Native.Nat.{ℕ, zero, suc, _<_}
 use mathlib.Core.Path.{_≡_, refl, sym, ap, _∙_}
 use mathlib.Core.Logic.{_⊎_, inl, inr, ⊎-elim}
-use mathlib.Core.Bool.{Bool, true, false, cond, _||_, false≢true}
-use native.Mathlib.Omega.{arith}
+use mathlib.Core.Bool.{Bool, true, false, cond, false≢true}
+use mathlib.Mathlib.Data.Bool.Basic.{or-eq-false-eq-eq-false-and-eq-false as neither}
 use native.Mathlib.Nat.{not-suc-le-zero, le-of-suc-le-suc, eq-or-lt-of-le}
 use mathlib.Core.List.{List}
-use borrow.Author.Tests.{eqb-true, eqb-false, eq-eqb, lt-ltb, le-ltb}
+use borrow.Author.Tests.{eqb-true, eqb-false, eq-eqb}
 use lib.Dec.{eqb}
-use lib.ListN.{length, getD, length-set, length-replicate}
+use lib.ListN.{length, getD, length-set}
 use lib.Seq.{getD-set-other}
 use lib.Ieee.{Float, nan}
 use Rattle.options.specs.declared.Options.{Options}
 use Rattle.loops.specs.Loop.{copied}
-use Rattle.loops.specs.Laws.{turns-inv, copied-length, three}
+use Rattle.loops.specs.Laws.{turns-inv, copied-length}
 use Rattle.sheet.specs.declared.Element.{Element}
 use Rattle.sheet.specs.declared.Element.the-variants.{R, I, «V», D, Isin, Vsin, Vpwl, C, Vcvs, Vccs}
 use Rattle.sheet.specs.declared.Decoded.{Decoded}
@@ -34,16 +34,12 @@ use Rattle.models.specs.declared.diode.Linear.{Linear}
 use Rattle.models.specs.declared.diode.Linear.the-variants.{Model, NotFinite}
 use Rattle.groups.specs.declared.Pass.{Pass}
 use Rattle.groups.specs.Records.{elementAt, onRecord, across}
-use Rattle.groups.specs.Passing.{outside}
-use Rattle.groups.specs.Linear.{basedOn, dependentOf, storageOf}
+use Rattle.groups.specs.Passing.{apart}
+use Rattle.groups.specs.Linear.{dependentOf, storageOf}
 use Rattle.groups.specs.Sources.{Driven, drivenOf, levelled, driven, drivenAt, independentOf}
 use Rattle.groups.specs.Diodes.{Stamped, stampedOf, companion, biased, biasedAt, diodesOf, diodeBelow, hasDiodes}
-use Rattle.groups.specs.Stamping.{baseOf, sourceTime, completed, linearOf, stampOf}
+use Rattle.groups.specs.Stamping.{sourceTime, completed, linearOf, stampOf}
 use Rattle.groups.specs.Quiet.{quiet-biased}
-
-pub base-length : (nodes n : ℕ) (sheet : List ℕ) (base : List Float) → length (baseOf nodes n sheet base) ≡ length base
-unfolding baseOf basedOn
-base-length nodes n sheet base = stamped-length n _ _ ∙ length-replicate _ _
 
 -- what holds of every element's part, and where there is none, holds of a record's
 on-record : {X : Type 0} (P : X → Type 0) (f : Element → X) (x : X) → ((e : Element) → P (f e)) → P x → (d : Decoded) → P (onRecord f x d)
@@ -135,12 +131,9 @@ module _ (o : Options) (sheet : List ℕ) (n : ℕ) (x : List Float) where
       (λ i l s k. diode-fine m y i s k (eqb (s .code) 0) refl)
 
 -- the memory of record j, where that is no diode
-kind-apart : (k : ℕ) → (k ≡ 4 → ⊥) → outside 4 4 k ≡ true
-kind-apart k h = ⊎-elim (λ e. absurd (h e)) (λ l. ⊎-elim (λ p. rw (lt-ltb k 4 p)) (λ p. rw (le-ltb k 4 (omega arith), lt-ltb 4 k p)) l) (three k 4)
-
 module _ (o : Options) (sheet : List ℕ) (n : ℕ) (x : List Float) (j : ℕ) (other : kindAt sheet j ≡ 4 → ⊥) where
   not-diode : (m y : List Float) (d : Decoded) → elementAt sheet j ≡ d → onRecord (biased o n x j m y) (stampedOf 0 m y) d ≡ stampedOf 0 m y
-  not-diode m y (Good e) g = quiet-biased o n x j m y e (kind-apart (kindOf e) (λ h. other (kind-at sheet j e g ∙ h)))
+  not-diode m y (Good e) g = quiet-biased o n x j m y e (apart 4 (kindOf e) (λ h. other (kind-at sheet j e g ∙ h)))
   not-diode m y (Refused k) g = refl
 
   -- record i leaves it
@@ -226,11 +219,7 @@ no-diode-at : (sheet : List ℕ) (k i : ℕ) → diodeBelow sheet k ≡ false �
 unfolding diodeBelow
 no-diode-at sheet zero i h l e = not-suc-le-zero l
 no-diode-at sheet (suc k) i h l e =
-    ⊎-elim (λ q. false≢true (sym (neither (diodeBelow sheet k) _ h .1) ∙ eq-eqb (kindAt sheet k) 4 (ap (kindAt sheet) (sym q) ∙ e))) (λ q. no-diode-at sheet k i (neither (diodeBelow sheet k) _ h .0) q e) (eq-or-lt-of-le (le-of-suc-le-suc l))
-  where
-    neither : (a b : Bool) → (a || b) ≡ false → (a ≡ false) × (b ≡ false)
-    neither false b q = (refl, q)
-    neither true b q = absurd (false≢true (sym q))
+    ⊎-elim (λ q. false≢true (sym (neither (diodeBelow sheet k) _ .0 h .1) ∙ eq-eqb (kindAt sheet k) 4 (ap (kindAt sheet) (sym q) ∙ e))) (λ q. no-diode-at sheet k i (neither (diodeBelow sheet k) _ .0 h .0) q e) (eq-or-lt-of-le (le-of-suc-le-suc l))
 
 -- where no record is a diode, nothing is stamped and nothing remembered
 pub no-diodes : (o : Options) (sheet : List ℕ) (n : ℕ) (x m y : List Float) → hasDiodes sheet ≡ false → diodesOf o sheet n x m y ≡ stampedOf 0 m y

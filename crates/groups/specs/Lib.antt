@@ -5,4 +5,5 @@ pub mod Sources
 pub mod Diodes
 pub mod Stamping
 pub mod Quiet
+pub mod Listed
 pub mod Laws

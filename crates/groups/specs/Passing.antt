@@ -3,7 +3,11 @@ use Prim.Native.Nat.{ℕ}
 use mathlib.Core.Path.{_≡_, refl, sym, ap, _∙_}
 use mathlib.Core.Bool.{Bool, true, false, cond, _||_}
 use mathlib.Core.List.{List}
+use mathlib.Core.Logic.{⊎-elim}
+use native.Mathlib.Omega.{arith}
+use borrow.Author.Tests.{lt-ltb, le-ltb}
 use lib.Dec.{ltb}
+use Rattle.loops.specs.Laws.{three}
 use Rattle.sheet.specs.declared.Element.{Element}
 use Rattle.sheet.specs.declared.Decoded.{Decoded}
 use Rattle.sheet.specs.declared.Decoded.the-variants.{Good, Refused}
@@ -14,6 +18,13 @@ use Rattle.groups.specs.Records.{elementAt, onRecord}
 -- a kind that is not among those from low to high
 abbrev pub outside : ℕ → ℕ → ℕ → Bool
 outside low high kind = ltb kind low || ltb high kind
+
+-- a group of one kind: each other kind is outside, and it is not
+pub apart : (kind k : ℕ) → (k ≡ kind → ⊥) → outside kind kind k ≡ true
+apart kind k h = ⊎-elim (λ e. absurd (h e)) (λ l. ⊎-elim (λ p. rw (lt-ltb k kind p)) (λ p. rw (le-ltb k kind (omega arith), lt-ltb kind k p)) l) (three k kind)
+
+pub itself : (kind k : ℕ) → k ≡ kind → outside kind kind k ≡ false
+itself kind k e = rw (le-ltb k kind (omega arith), le-ltb kind k (omega arith))
 
 -- record i, not decoded where its kind is outside
 unfoldable pub recordIn : ℕ → ℕ → List ℕ → ℕ → Decoded

@@ -5,35 +5,56 @@ use super::records::record_in;
 use models::diode::Linear;
 use options::Options;
 use sheet::Decoded;
-use sheet::Element;
 ghost use mathlib.Core.Path.{_≡_};
-ghost use lib.ListN.{set};
+ghost use Prim.Native.Nat.{_-_, _≤_, min};
+ghost use lib.ListN.{length, set};
+ghost use Rattle.loops.specs.Loop.{turns};
+ghost use Rattle.sheet.specs.Record.{diodeOf};
+ghost use Rattle.sheet.specs.Check.{recordsOf};
 ghost use Rattle.groups.specs.Diodes.{stampedOf, companion, biased, biasedAt, diodesOf, hasDiodes};
-ghost use Rattle.groups.specs.Records.{onRecord};
+ghost use Rattle.groups.specs.Listed.{diodeIn, asDiode, listedAt, restAt, Listed};
 
 // The kind of a diode's record.
 const DIODE: u8 = 4;
 
+// So many records of a sheet can be listed, each by a byte.
+const LISTED: usize = 256;
+
 // A diode's current is not finite.
 const CURRENT: u8 = 22;
 
-// Stamps the diodes at the vector x, in the order of the records, and answers 0 or the verdict that ended it.
-pub fn stamp_diodes(
-    o: Options,
-    sheet: &[u8],
-    n: usize,
-    x: &[f64],
-    memory: &mut [f64],
-    m: &mut [f64],
-) -> u8
-    ensures { λ r. ⌜ stampedOf r (now (m .exit)) (now (memory .exit)) ≡ diodesOf o (now (sheet .entry)) n (now (x .entry)) (now (m .entry)) (now (memory .entry)) ⌝ }
+// Writes the places of the diodes at the front of `places`, in rising order, and answers how many they are. It walks the first 256 records, or as many as `places` has bytes if that is fewer.
+pub fn list_diodes(sheet: &[u8], places: &mut [u8]) -> usize
+    ensures bounded { λ r. ⌜ r ≤ length (now (places .entry)) ⌝ }
+    ensures listed { λ r. ⌜ (256 ≤ length (now (places .entry)) → Listed (now (sheet .entry)) r (now (places .exit))) ⌝ }
 {
-    let count = sheet::records(sheet);
-    let mut code: u8 = 0;
+    let count = walked(sheet::records(sheet), places.len());
+    let mut found = 0;
     for i in 0..count {
-        code = diode_at(code, o, sheet, n, x, i, memory, m);
+        if diode_in(sheet, i) {
+            places[found] = i as u8;
+            found += 1;
+        }
     }
-    code
+    found
+}
+
+// The least of two numbers and 256.
+fn walked(a: usize, b: usize) -> usize
+    ensures { λ r. ⌜ r ≡ min (min a 256) b ⌝ }
+{
+    let most = if a < LISTED { a } else { LISTED };
+    if most < b { most } else { b }
+}
+
+// Whether record i is a diode.
+fn diode_in(sheet: &[u8], i: usize) -> bool
+    ensures { λ r. ⌜ r ≡ diodeIn (now (sheet .entry)) i ⌝ }
+{
+    let Decoded::Good(_) = record_in(sheet, i, 4, 4) else {
+        return false;
+    };
+    true
 }
 
 // Whether some record is of a diode's kind.
@@ -48,7 +69,69 @@ pub fn has_diodes(sheet: &[u8]) -> bool
     found
 }
 
-// Record i, unless there is a verdict already.
+// Stamps the diodes at the vector x, in the order of the records, and answers 0 or the verdict that ended it. `places` lists those among the first 256 records.
+pub fn stamp_diodes(
+    o: Options,
+    sheet: &[u8],
+    places: &[u8],
+    n: usize,
+    x: &[f64],
+    memory: &mut [f64],
+    m: &mut [f64],
+) -> u8
+    ensures { λ r. ⌜ (Listed (now (sheet .entry)) (length (now (places .entry))) (now (places .entry)) → stampedOf r (now (m .exit)) (now (memory .exit)) ≡ diodesOf o (now (sheet .entry)) n (now (x .entry)) (now (m .entry)) (now (memory .entry))) ⌝ }
+{
+    let code = stamp_listed(o, sheet, places, n, x, memory, m);
+    stamp_rest(code, o, sheet, n, x, memory, m)
+}
+
+// The listed records, each read as a diode.
+fn stamp_listed(
+    o: Options,
+    sheet: &[u8],
+    places: &[u8],
+    n: usize,
+    x: &[f64],
+    memory: &mut [f64],
+    m: &mut [f64],
+) -> u8
+    ensures { λ r. ⌜ stampedOf r (now (m .exit)) (now (memory .exit)) ≡ turns (length (now (places .entry))) (listedAt o (now (sheet .entry)) n (now (x .entry)) (now (places .entry))) (stampedOf 0 (now (m .entry)) (now (memory .entry))) ⌝ }
+{
+    let mut code: u8 = 0;
+    for j in 0..places.len() {
+        code = as_diode(code, o, sheet, n, x, wide(places[j]), memory, m);
+    }
+    code
+}
+
+// A place, widened, so that a caller needs no fact about the list's bytes.
+fn wide(place: u8) -> usize
+    ensures { λ r. ⌜ r ≡ place ⌝ }
+{
+    place as usize
+}
+
+// The records after the first 256, which no checked sheet has, after the verdict `before`.
+fn stamp_rest(
+    before: u8,
+    o: Options,
+    sheet: &[u8],
+    n: usize,
+    x: &[f64],
+    memory: &mut [f64],
+    m: &mut [f64],
+) -> u8
+    ensures { λ r. ⌜ stampedOf r (now (m .exit)) (now (memory .exit)) ≡ turns (recordsOf (now (sheet .entry)) - 256) (restAt o (now (sheet .entry)) n (now (x .entry))) (stampedOf before (now (m .entry)) (now (memory .entry))) ⌝ }
+{
+    let count = sheet::records(sheet);
+    let mut code = before;
+    for i in LISTED..count {
+        code = diode_at(code, o, sheet, n, x, i, memory, m);
+    }
+    code
+}
+
+// Record i, if it is a diode.
 fn diode_at(
     code: u8,
     o: Options,
@@ -61,15 +144,34 @@ fn diode_at(
 ) -> u8
     ensures { λ r. ⌜ stampedOf r (now (m .exit)) (now (memory .exit)) ≡ biasedAt o (now (sheet .entry)) n (now (x .entry)) i (stampedOf code (now (m .entry)) (now (memory .entry))) ⌝ }
 {
+    if diode_in(sheet, i) {
+        return as_diode(code, o, sheet, n, x, i, memory, m);
+    }
+    code
+}
+
+// Record i read as a diode, unless there is a verdict already.
+fn as_diode(
+    code: u8,
+    o: Options,
+    sheet: &[u8],
+    n: usize,
+    x: &[f64],
+    i: usize,
+    memory: &mut [f64],
+    m: &mut [f64],
+) -> u8
+    ensures { λ r. ⌜ stampedOf r (now (m .exit)) (now (memory .exit)) ≡ asDiode o (now (sheet .entry)) n (now (x .entry)) i (stampedOf code (now (m .entry)) (now (memory .entry))) ⌝ }
+{
     if code != 0 {
         return code;
     }
-    diode_one(record_in(sheet, i, 4, 4), o, n, x, i, memory, m)
+    diode_one(sheet::record_at(sheet, i), o, n, x, i, memory, m)
 }
 
-// What a record writes as a diode.
+// What a record's bytes write, read as a diode's: no element is made of them.
 fn diode_one(
-    d: Decoded,
+    bytes: &[u8],
     o: Options,
     n: usize,
     x: &[f64],
@@ -77,23 +179,18 @@ fn diode_one(
     memory: &mut [f64],
     m: &mut [f64],
 ) -> u8
-    ensures { λ r. ⌜ stampedOf r (now (m .exit)) (now (memory .exit)) ≡ onRecord (biased o n (now (x .entry)) i (now (m .entry)) (now (memory .entry))) (stampedOf 0 (now (m .entry)) (now (memory .entry))) d ⌝ }
+    ensures { λ r. ⌜ stampedOf r (now (m .exit)) (now (memory .exit)) ≡ biased o n (now (x .entry)) i (now (m .entry)) (now (memory .entry)) (diodeOf (now (bytes .entry))) ⌝ }
 {
-    let Decoded::Good(e) = d else {
-        return 0;
-    };
-    let Element::D {
-        p,
-        n: q,
-        i_sat,
-        tdegc,
-    } = e
-    else {
-        return 0;
-    };
-    let a = p.0 as usize;
-    let b = q.0 as usize;
-    let l = models::diode::linearize(o, i_sat, tdegc, across(x, a, b), number_at(memory, i));
+    let a = num::u16_at(bytes, 2) as usize;
+    let b = num::u16_at(bytes, 4) as usize;
+    let v_thermal = models::diode::thermal_voltage(o, num::f64_at(bytes, 24));
+    let l = models::diode::linearize_at(
+        o.gmin,
+        num::f64_at(bytes, 16),
+        v_thermal,
+        across(x, a, b),
+        number_at(memory, i),
+    );
     stamp_model(l, n, i, a, b, memory, m)
 }
 

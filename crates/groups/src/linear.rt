@@ -1,11 +1,14 @@
 // The groups that cannot fail: the base (I, R, V), the dependent sources (Vcvs, Vccs) and the elements that store energy (C).
 use super::records::across;
 use super::records::record_in;
+use super::records::record_of;
 use sheet::Decoded;
 use sheet::Element;
+use sheet::NodeId;
 ghost use mathlib.Core.Path.{_≡_};
 ghost use mathlib.Core.Bool.{cond};
 ghost use Rattle.stamps.specs.Write.{stamped};
+ghost use Rattle.stamps.specs.Kinds.{vcvsWrites, vccsWrites};
 ghost use mathlib.Core.List.{[]};
 ghost use Rattle.groups.specs.Records.{onRecord};
 ghost use Rattle.groups.specs.Linear.{baseWrites, dependentWrites, storageWrites, basedOn, dependentOf, storageOf};
@@ -53,7 +56,7 @@ fn stamp_storage(sheet: &[u8], n: usize, x: &[f64], step: f64, m: &mut [f64])
 {
     let count = sheet::records(sheet);
     for i in 0..count {
-        storage_one(record_in(sheet, i, 8, 8), n, x, step, m);
+        storage_one(record_of(sheet, i, 8), n, x, step, m);
     }
 }
 
@@ -99,38 +102,47 @@ fn dependent_one(d: Decoded, nodes: usize, n: usize, m: &mut [f64])
             cn: cq,
             k,
             source,
-        } => {
-            let s = sheet::row_of(nodes, source);
-            stamps::stamp_vcvs(
-                m,
-                n,
-                s,
-                p.0 as usize,
-                q.0 as usize,
-                cp.0 as usize,
-                cq.0 as usize,
-                k,
-            );
-        }
+        } => vcvs(n, sheet::row_of(nodes, source), p, q, cp, cq, k, m),
         Element::Vccs {
             p,
             n: q,
             cp,
             cn: cq,
             k,
-        } => {
-            stamps::stamp_vccs(
-                m,
-                n,
-                p.0 as usize,
-                q.0 as usize,
-                cp.0 as usize,
-                cq.0 as usize,
-                k,
-            );
-        }
+        } => vccs(n, p, q, cp, cq, k, m),
         _ => {}
     }
+}
+
+// A voltage of k times the voltage from cp to cq, with the source's row s.
+fn vcvs(n: usize, s: usize, p: NodeId, q: NodeId, cp: NodeId, cq: NodeId, k: f64, m: &mut [f64])
+    ensures { λ _. ⌜ now (m .exit) ≡ stamped n (vcvsWrites s (p .0) (q .0) (cp .0) (cq .0) k) (now (m .entry)) ⌝ }
+{
+    stamps::stamp_vcvs(
+        m,
+        n,
+        s,
+        p.0 as usize,
+        q.0 as usize,
+        cp.0 as usize,
+        cq.0 as usize,
+        k,
+    );
+}
+
+// A current of k times the voltage from cp to cq.
+fn vccs(n: usize, p: NodeId, q: NodeId, cp: NodeId, cq: NodeId, k: f64, m: &mut [f64])
+    ensures { λ _. ⌜ now (m .exit) ≡ stamped n (vccsWrites (p .0) (q .0) (cp .0) (cq .0) k) (now (m .entry)) ⌝ }
+{
+    stamps::stamp_vccs(
+        m,
+        n,
+        p.0 as usize,
+        q.0 as usize,
+        cp.0 as usize,
+        cq.0 as usize,
+        k,
+    );
 }
 
 // What a record writes as a capacitor.

@@ -20,6 +20,16 @@ pub fn record_in(sheet: &[u8], i: usize, low: u8, high: u8) -> Decoded
     sheet::element_at(sheet, i)
 }
 
+// Record i, decoded only where it is of this kind, and then as no other: a pass over one kind is not slowed by the rest.
+pub fn record_of(sheet: &[u8], i: usize, kind: u8) -> Decoded
+    ensures { λ r. ⌜ r ≡ recordIn kind kind (now (sheet .entry)) i ⌝ }
+{
+    if sheet::kind_at(sheet, i) != kind {
+        return Decoded::Refused(0);
+    }
+    sheet::element_as(sheet, i, kind)
+}
+
 // The voltage of node a above node b.
 pub fn across(x: &[f64], a: usize, b: usize) -> f64
     ensures { λ r. ⌜ r ≡ acrossOf (now (x .entry)) a b ⌝ }

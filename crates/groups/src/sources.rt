@@ -1,10 +1,17 @@
 // The independent sources: Isin, Vsin and Vpwl at a time. A sine that is refused ends the stamping.
 use super::records::record_in;
 use models::sine::Level;
+use models::sine::evaluate;
+use models::vpwl;
 use sheet::Decoded;
 use sheet::Element;
+use sheet::NodeId;
+use sheet::SourceId;
 ghost use mathlib.Core.Path.{_≡_};
+ghost use Rattle.sheet.specs.Row.{rowOf};
 ghost use Rattle.stamps.specs.Kinds.{currentWrites, voltageWrites};
+ghost use Rattle.models.specs.declared.sine.Level.the-variants.{Value};
+ghost use Rattle.models.specs.Vpwl.{patternAt, pointsFrom};
 ghost use Rattle.groups.specs.Sources.{drivenOf, levelled, driven, drivenAt, independentOf};
 ghost use Rattle.groups.specs.Records.{onRecord};
 
@@ -63,13 +70,7 @@ fn source_one(d: Decoded, points: &[u8], t: f64, nodes: usize, n: usize, m: &mut
             vo,
             va,
             freq,
-        } => current(
-            models::sine::evaluate(vo, va, freq, t),
-            n,
-            p.0 as usize,
-            q.0 as usize,
-            m,
-        ),
+        } => current(evaluate(vo, va, freq, t), n, p, q, m),
         Element::Vsin {
             p,
             n: q,
@@ -77,17 +78,7 @@ fn source_one(d: Decoded, points: &[u8], t: f64, nodes: usize, n: usize, m: &mut
             va,
             freq,
             source,
-        } => {
-            let s = sheet::row_of(nodes, source);
-            voltage(
-                models::sine::evaluate(vo, va, freq, t),
-                n,
-                s,
-                p.0 as usize,
-                q.0 as usize,
-                m,
-            )
-        }
+        } => voltage(evaluate(vo, va, freq, t), nodes, n, source, p, q, m),
         Element::Vpwl {
             p,
             n: q,
@@ -97,40 +88,47 @@ fn source_one(d: Decoded, points: &[u8], t: f64, nodes: usize, n: usize, m: &mut
             count,
             source,
         } => {
-            let s = sheet::row_of(nodes, source);
-            let v = models::vpwl::evaluate(
-                points,
-                first as usize,
-                count as usize,
-                t_delay,
-                repeat,
-                t,
-            );
-            stamps::stamp_voltage(m, n, s, p.0 as usize, q.0 as usize, v);
-            0
+            let v = pattern(points, first, count, t_delay, repeat, t);
+            voltage(v, nodes, n, source, p, q, m)
         }
         _ => 0,
     }
 }
 
+// The level of a pattern, which is never refused.
+fn pattern(points: &[u8], first: u16, count: u16, t_delay: f64, repeat: f64, t: f64) -> Level
+    ensures { λ r. ⌜ r ≡ Value (patternAt (pointsFrom (now (points .entry)) first count) «t_delay» repeat t) ⌝ }
+{
+    Level::Value(vpwl::evaluate(points, first as usize, count as usize, t_delay, repeat, t))
+}
+
 // A current at its level.
-fn current(l: Level, n: usize, a: usize, b: usize, m: &mut [f64]) -> u8
-    ensures { λ r. ⌜ drivenOf r (now (m .exit)) ≡ levelled n (currentWrites n a b) l (now (m .entry)) ⌝ }
+fn current(l: Level, n: usize, p: NodeId, q: NodeId, m: &mut [f64]) -> u8
+    ensures { λ r. ⌜ drivenOf r (now (m .exit)) ≡ levelled n (currentWrites n (p .0) (q .0)) l (now (m .entry)) ⌝ }
 {
     let Level::Value(x) = l else {
         return SINE;
     };
-    stamps::stamp_current(m, n, a, b, x);
+    stamps::stamp_current(m, n, p.0 as usize, q.0 as usize, x);
     0
 }
 
 // A voltage at its level.
-fn voltage(l: Level, n: usize, s: usize, a: usize, b: usize, m: &mut [f64]) -> u8
-    ensures { λ r. ⌜ drivenOf r (now (m .exit)) ≡ levelled n (voltageWrites n s a b) l (now (m .entry)) ⌝ }
+fn voltage(
+    l: Level,
+    nodes: usize,
+    n: usize,
+    source: SourceId,
+    p: NodeId,
+    q: NodeId,
+    m: &mut [f64],
+) -> u8
+    ensures { λ r. ⌜ drivenOf r (now (m .exit)) ≡ levelled n (voltageWrites n (rowOf nodes source) (p .0) (q .0)) l (now (m .entry)) ⌝ }
 {
     let Level::Value(x) = l else {
         return SINE;
     };
-    stamps::stamp_voltage(m, n, s, a, b, x);
+    let s = sheet::row_of(nodes, source);
+    stamps::stamp_voltage(m, n, s, p.0 as usize, q.0 as usize, x);
     0
 }

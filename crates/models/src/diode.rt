@@ -19,13 +19,19 @@ pub enum Linear {
 pub fn linearize(o: Options, i_sat: f64, tdegc: f64, v_hat: f64, v_d_prev: f64) -> Linear
     ensures { λ r. ⌜ r ≡ linearized o «i_sat» tdegc «v_hat» «v_d_prev» ⌝ }
 {
-    let v_thermal = thermal_voltage(o, tdegc);
+    linearize_at(o.gmin, i_sat, thermal_voltage(o, tdegc), v_hat, v_d_prev)
+}
+
+// The same at a thermal voltage that is worked out already.
+pub fn linearize_at(gmin: f64, i_sat: f64, v_thermal: f64, v_hat: f64, v_d_prev: f64) -> Linear
+    ensures { λ r. ⌜ r ≡ modelAt gmin «i_sat» «v_thermal» (limited «v_thermal» (critical «v_thermal» «i_sat») «v_hat» «v_d_prev») ⌝ }
+{
     let v_d_i = limit(v_thermal, i_sat, v_hat, v_d_prev);
-    model_at(o.gmin, i_sat, v_thermal, v_d_i)
+    model_at(gmin, i_sat, v_thermal, v_d_i)
 }
 
 // The thermal voltage.
-fn thermal_voltage(o: Options, tdegc: f64) -> f64
+pub fn thermal_voltage(o: Options, tdegc: f64) -> f64
     ensures { λ r. ⌜ r ≡ thermal o tdegc ⌝ }
 {
     o.boltzmann * (363.0 + tdegc) / o.charge

@@ -2,17 +2,16 @@
 use Prim.Native.Nat.{ℕ}
 use mathlib.Core.Path.{_≡_, refl, sym, ap, _∙_}
 use mathlib.Core.Logic.{_⊎_, inl, inr, ⊎-elim}
-use mathlib.Core.Bool.{Bool, true, false, cond, not, _&&_, false≢true}
+use mathlib.Core.Bool.{Bool, true, false, cond, false≢true}
 use mathlib.Core.List.{List}
 use lib.Dec.{eqb, ltb, leb}
-use lib.ListN.{length}
 use lib.Ieee as Ieee
 use lib.Ieee.{Float, binary64}
 use Rattle.options.specs.declared.Options.{Options}
 use Rattle.steps.specs.declared.Counters.{Counters}
 use Rattle.steps.specs.declared.Report.{Report}
 use Rattle.steps.specs.declared.Report.the-variants.{Yes, No, Error, Diode, Sine}
-use Rattle.steps.specs.Verdicts.{settled, passesUsed, diverged, noRoom}
+use Rattle.steps.specs.Verdicts.{settled, passesUsed, diverged, noRoom, transientPhase}
 use Rattle.steps.specs.Counters.{counted, ended, again, withStep, written, going}
 use Rattle.steps.specs.Control.{dcOver, dcAfter, moved, shortened, stepAfter, rowDue}
 use Rattle.steps.specs.Laws.{solved}
@@ -20,6 +19,7 @@ use Rattle.machine.specs.State.{Written, writtenOf}
 use Rattle.machine.specs.Machine.{writtenBy, landed, accepts}
 use Rattle.passes.specs.Attempt.{Circuit}
 use Rattle.passes.specs.Again.{linearAt, alike, Holds}
+use Rattle.passes.specs.Done.{dcDone, stepDone}
 
 -- the same pass is stamped at both
 pub record Same (d c : Counters) : Type 0 where
@@ -27,8 +27,8 @@ pub record Same (d c : Counters) : Type 0 where
   pub time : d .time ≡ c .time
   pub step : d .step ≡ c .step
 
-pub moves : (k : Circuit) (linear hold : Bool) (d c : Counters) (a kept s v : List Float) → Same d c → Holds k linear hold c a kept s v → Holds k linear hold d a kept s v
-moves k linear hold d c a kept s v e h =
+pub moves : (k : Circuit) (linear : Bool) (d c : Counters) (a kept s v : List Float) → Same d c → Holds k linear c a kept s v → Holds k linear d a kept s v
+moves k linear d c a kept s v e h =
     let q : linearAt k d a ≡ linearAt k c a = rw (e .phase, e .time, e .step) in
     record { whole = λ l. (q ∙ h .whole l .0, h .whole l .1); part = λ l. q ∙ h .part l }
 
@@ -106,28 +106,45 @@ land-going o d w v rows z e g = go (rowDue o (d .time)) e
 pub row-same : (d : Counters) → Same (written d) d
 row-same d = record { phase = refl; time = refl; step = refl }
 
-module _ (k : Circuit) (linear hold : Bool) (o : Options) (r : Report) (c d : Counters) (a kept s v : List Float) (h : solved r ≡ true → Holds k linear hold c a kept s v) where
-  pub next-dc : (tr : Bool) → d ≡ dcAfter o tr r c → going d ≡ true → alike d ≡ true → Holds k linear hold d a kept s v
-  next-dc tr e g l =
-      let x = dc-alike o tr r c (ap going (sym e) ∙ g) (later (dcAfter o tr r c) (ap alike (sym e) ∙ l)) in
-      rw e (moves k linear hold (dcAfter o tr r c) c a kept s v (x .1) (h (x .0)))
-
-  pub next-dc-row : (tr : Bool) (w : Counters) (x rows z : List Float) → d ≡ dcAfter o tr r c → writtenOf w z ≡ writtenBy d x rows → going w ≡ true → alike w ≡ true → Holds k linear hold w a kept s v
-  unfolding alike
-  next-dc-row tr w x rows z e q g l =
-      let p = write-going d w x rows z q g in
-      rw p (moves k linear hold (written d) d a kept s v (row-same d) (next-dc tr e (ap going (sym p) ∙ g) (ap alike (sym p) ∙ l)))
-
-  pub next-step : d ≡ stepAfter o r c → going d ≡ true → alike d ≡ true → Holds k linear hold d a kept s v
-  next-step e g l =
-      let x = step-alike o r c (ap going (sym e) ∙ g) (ap alike (sym e) ∙ l) in
-      rw e (moves k linear hold (stepAfter o r c) c a kept s v (x .2) (h (x .1)))
-
 -- after an accepted step all is new
 pub accepted-new : (o : Options) (r : Report) (c d w : Counters) (x rows z : List Float) → d ≡ stepAfter o r c → accepts r ≡ true → writtenOf w z ≡ landed o d x rows → going w ≡ true → alike w ≡ true → ⊥
 unfolding alike
-accepted-new o r c d w x rows z e y q g l =
-    ⊎-elim
-    (λ p. false≢true (sym (step-alike o r c (ap going (sym e) ∙ (ap going (sym p) ∙ g)) (ap alike (sym e) ∙ (ap alike (sym p) ∙ l)) .0) ∙ y))
-    (λ p. false≢true (sym (step-alike o r c (ap going (sym e) ∙ (ap going (sym p) ∙ g)) (ap alike (sym e) ∙ (ap alike (sym p) ∙ l)) .0) ∙ y))
-    (land-going o d w x rows z q g)
+accepted-new o r c d w x rows z e y q g l = ⊎-elim (new (written d) refl refl) (new d refl refl) (land-going o d w x rows z q g)
+  where
+    new : (v : Counters) → going d ≡ going v → alike d ≡ alike v → w ≡ v → ⊥
+    new v a b p = false≢true (sym (step-alike o r c (ap going (sym e) ∙ (a ∙ (ap going (sym p) ∙ g))) (ap alike (sym e) ∙ (b ∙ (ap alike (sym p) ∙ l))) .0) ∙ y)
+
+module _ (k : Circuit) (linear : Bool) (o : Options) (r : Report) (c w : Counters) (a kept s v x rows z : List Float) (h : solved r ≡ true → Holds k linear c a kept s v) where
+  pub next-dc : (tr : Bool) → writtenOf w z ≡ dcDone o tr r c x rows → going w ≡ true → alike w ≡ true → Holds k linear w a kept s v
+  unfolding dcDone alike
+  next-dc tr e g l = go (eqb (dcAfter o tr r c .phase) transientPhase) e
+    where
+      d : Counters
+      d = dcAfter o tr r c
+
+      same : going d ≡ true → alike d ≡ true → Holds k linear d a kept s v
+      same g l =
+          let y = dc-alike o tr r c g (later d l) in
+          moves k linear d c a kept s v (y .1) (h (y .0))
+
+      go : (b : Bool) → writtenOf w z ≡ cond b (writtenBy d x rows) (writtenOf d rows) → Holds k linear w a kept s v
+      go true q =
+          let p = write-going d w x rows z q g in
+          rw p (moves k linear (written d) d a kept s v (row-same d) (same (ap going (sym p) ∙ g) (ap alike (sym p) ∙ l)))
+      go false q =
+          let p : w ≡ d = ap (λ (t : Written). t .counters) q in
+          rw p (same (ap going (sym p) ∙ g) (ap alike (sym p) ∙ l))
+
+  pub next-step : (b : List Float) → writtenOf w z ≡ stepDone o r c x rows → b ≡ cond (accepts r) x a → going w ≡ true → alike w ≡ true → Holds k linear w b kept s v
+  unfolding stepDone
+  next-step b e t g l = go (accepts r) refl e t
+    where
+      d : Counters
+      d = stepAfter o r c
+
+      go : (y : Bool) → accepts r ≡ y → writtenOf w z ≡ cond y (landed o d x rows) (writtenOf d rows) → b ≡ cond y x a → Holds k linear w b kept s v
+      go true y q t = absurd (accepted-new o r c d w x rows z refl y q g l)
+      go false y q t =
+          let p : w ≡ d = ap (λ (t : Written). t .counters) q in
+          let n = step-alike o r c (ap going (sym p) ∙ g) (ap alike (sym p) ∙ l) in
+          rw (p, t) (moves k linear d c a kept s v (n .2) (h (n .1)))

@@ -1,13 +1,11 @@
 -- A pass from its parts, over plain variables: what each call ensures is one hypothesis, and the definitions of stamping and solving stay shut. Assumes nothing.
-use Prim.Native.Nat.{ℕ, _+_, _*_, _≤_, _<_}
+use Prim.Native.Nat.{ℕ, _+_, _*_, _≤_}
 use mathlib.Core.Path.{_≡_, refl, sym, ap, _∙_}
 use mathlib.Core.Bool.{Bool, true, false, cond}
 use mathlib.Core.List.{List}
-use lib.Dec.{eqb}
 use lib.ListN.{length}
 use lib.Ieee.{Float}
-use native.Mathlib.Omega.{arith}
-use borrow.Author.Tests.{eq-eqb, ne-eqb}
+use borrow.Author.Tests.{ne-eqb}
 use Rattle.loops.specs.Laws.{copied-same}
 use Rattle.loops.specs.Loop.{copied}
 use Rattle.options.specs.declared.Options.{Options}
@@ -15,19 +13,19 @@ use Rattle.convergence.specs.declared.Convergence.{Convergence}
 use Rattle.convergence.specs.Convergence.{convergenceOf}
 use Rattle.steps.specs.declared.Counters.{Counters}
 use Rattle.steps.specs.declared.Report.{Report}
-use Rattle.steps.specs.Verdicts.{transientPhase}
-use Rattle.steps.specs.Control.{reportOf, dcAfter, stepAfter}
+use Rattle.steps.specs.Control.{reportOf, stepAfter}
 use Rattle.groups.specs.declared.Pass.{Pass}
 use Rattle.groups.specs.Sources.{Driven, drivenOf}
-use Rattle.groups.specs.Diodes.{Stamped, stampedOf, diodesOf, hasDiodes}
+use Rattle.groups.specs.Diodes.{stampedOf, diodesOf, hasDiodes}
 use Rattle.groups.specs.Stamping.{linearOf, stampOf}
 use Rattle.groups.specs.Laws.{no-diodes}
 use Rattle.solve.specs.Solve.{Solved, solvedAs, solution, solveOf}
 use Rattle.solve.specs.Laws.{solution-length, solves-whole}
-use Rattle.machine.specs.State.{State, stateOf, Job, Attempt, Tried, triedOf, Written, writtenOf}
-use Rattle.machine.specs.Machine.{before, tried, writtenBy, landed, accepts, dcPass, stepPass}
+use Rattle.machine.specs.State.{stateOf, jobOf, Attempt, Tried, triedOf, Written, writtenOf}
+use Rattle.machine.specs.Machine.{before, tried, landed, after, accepts, dcPass, stepPass}
 use Rattle.passes.specs.Attempt.{Circuit, attemptOf}
 use Rattle.passes.specs.Again.{linearAt, failureOf, finished, Holds}
+use Rattle.passes.specs.Done.{dcDone, stepDone}
 use Rattle.passes.specs.Run.{Renewed, renewedOf, renewed}
 
 -- ---- solving, from its calls
@@ -72,9 +70,9 @@ module _ (k : Circuit) (c : Counters) (acc sys vec mem : List Float) where
   without-diodes m none = rw (no-diodes (k .options) (k .sheet) (length vec) vec m mem none)
 
   -- what a pass from the matrix m on leaves for the next
-  pub leaves : (linear hold : Bool) (r : Report) (m kept s v y : List Float) → (linear ≡ true → hasDiodes (k .sheet) ≡ false) → length vec ≡ k .order → drivenOf 0 m ≡ linearAt k c acc → (hold ≡ true → kept ≡ m)
-      → triedOf r s v y ≡ finished (k .options) (k .nodes) (c .first) (k .sheet) m sys vec mem → Holds k linear hold c acc kept s v
-  leaves linear hold r m kept s v y none l d p e =
+  pub leaves : (linear : Bool) (r : Report) (m kept s v y : List Float) → (linear ≡ true → hasDiodes (k .sheet) ≡ false) → length vec ≡ k .order → drivenOf 0 m ≡ linearAt k c acc → (linear ≡ false → kept ≡ m)
+      → triedOf r s v y ≡ finished (k .options) (k .nodes) (c .first) (k .sheet) m sys vec mem → Holds k linear c acc kept s v
+  leaves linear r m kept s v y none l d p e =
       record {
         whole = λ h.
             let q = e ∙ without-diodes m (none h) in
@@ -93,24 +91,17 @@ module _ (o : Options) (nodes : ℕ) (first : Bool) (sheet : List ℕ) (m sys ve
   unfolding finished renewed
   finish-solved z r s v p q = rw (← e, z, p) (ap (λ (x : Renewed). triedOf (x .report) m′ (x .vector) y) q)
 
--- ---- a pass, from what was tried, what the counters became, and what was written
+-- ---- a pass, from what was tried and what followed it
 
-module _ (f : Attempt) (o : Options) (nodes : ℕ) (c d : Counters) (acc sys vec mem rows : List Float) (r : Report) (s v y : List Float) (e : triedOf r s v y ≡ tried f o nodes c acc sys vec mem) where
-  abbrev job : Bool → Job
-  job tr = record { options = o; nodes = nodes; transient = tr }
+module _ (f : Attempt) (o : Options) (nodes : ℕ) (c w : Counters) (acc sys vec mem rows : List Float) (r : Report) (s v y z : List Float) (e : triedOf r s v y ≡ tried f o nodes c acc sys vec mem) where
+  pub dc-joins : (tr : Bool) → writtenOf w z ≡ dcDone o tr r c v rows → stateOf w acc s v y z ≡ dcPass f (jobOf o nodes tr) (stateOf c acc sys vec mem rows)
+  unfolding dcPass dcDone
+  dc-joins tr q = rw (← e) (ap (λ (x : Written). stateOf (x .counters) acc s v y (x .rows)) q)
 
-  pub dc-row : (tr : Bool) (w : Counters) (z : List Float) → d ≡ dcAfter o tr r c → d .phase ≡ transientPhase → writtenOf w z ≡ writtenBy d v rows → stateOf w acc s v y z ≡ dcPass f (job tr) (stateOf c acc sys vec mem rows)
-  unfolding dcPass
-  dc-row tr w z p h q = rw (← e, ← p, eq-eqb _ _ h) (ap (λ (x : Written). stateOf (x .counters) acc s v y (x .rows)) q)
-
-  pub dc-none : (tr : Bool) → d ≡ dcAfter o tr r c → (d .phase ≡ transientPhase → ⊥) → stateOf d acc s v y rows ≡ dcPass f (job tr) (stateOf c acc sys vec mem rows)
-  unfolding dcPass
-  dc-none tr p h = rw (← e, ← p, ne-eqb _ _ h)
-
-  pub step-yes : (w : Counters) (a z : List Float) → d ≡ stepAfter o r c → accepts r ≡ true → a ≡ v → writtenOf w z ≡ landed o d v rows → stateOf w a s v y z ≡ stepPass f o nodes (stateOf c acc sys vec mem rows)
-  unfolding stepPass
-  step-yes w a z p h b q = rw (← e, ← p, h, b) (ap (λ (x : Written). stateOf (x .counters) v s v y (x .rows)) q)
-
-  pub step-none : d ≡ stepAfter o r c → accepts r ≡ false → stateOf d acc s v y rows ≡ stepPass f o nodes (stateOf c acc sys vec mem rows)
-  unfolding stepPass
-  step-none p h = rw (← e, ← p, h)
+  pub step-joins : (a : List Float) → writtenOf w z ≡ stepDone o r c v rows → a ≡ cond (accepts r) v acc → stateOf w a s v y z ≡ stepPass f o nodes (stateOf c acc sys vec mem rows)
+  unfolding stepPass stepDone
+  step-joins a q b = rw (← e, b) (go (accepts r) q)
+    where
+      go : (g : Bool) → writtenOf w z ≡ cond g (landed o (stepAfter o r c) v rows) (writtenOf (stepAfter o r c) rows) → stateOf w (cond g v acc) s v y z ≡ cond g (after v (triedOf r s v y) (landed o (stepAfter o r c) v rows)) (after acc (triedOf r s v y) (writtenOf (stepAfter o r c) rows))
+      go true q = ap (λ (x : Written). stateOf (x .counters) v s v y (x .rows)) q
+      go false q = ap (λ (x : Written). stateOf (x .counters) acc s v y (x .rows)) q

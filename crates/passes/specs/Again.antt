@@ -10,6 +10,7 @@ use Rattle.options.specs.declared.Options.{Options}
 use Rattle.convergence.specs.Convergence.{convergenceOf}
 use Rattle.groups.specs.Sources.{Driven, drivenOf}
 use Rattle.groups.specs.Diodes.{diodesOf, hasDiodes}
+use Rattle.groups.specs.Listed.{Listed}
 use Rattle.groups.specs.Stamping.{linearOf}
 use Rattle.solve.specs.Solve.{solution}
 use Rattle.steps.specs.declared.Counters.{Counters}
@@ -39,13 +40,14 @@ finished o nodes first sheet m system vector memory =
 unfoldable pub alike : Counters → Bool
 alike c = not (c .first) && not (eqb (c .count) 0)
 
--- what the last pass left: in a circuit without diodes the whole of it, else the part before the diodes where it is held
-pub record Holds (k : Circuit) (linear hold : Bool) (c : Counters) (a kept system vector : List Float) : Type 0 where
+-- what the last pass left: in a circuit without diodes the whole of it, else the part before the diodes
+pub record Holds (k : Circuit) (linear : Bool) (c : Counters) (a kept system vector : List Float) : Type 0 where
   pub whole : linear ≡ true → (linearAt k c a ≡ drivenOf 0 system) × (vector ≡ solution (k .order) system)
-  pub part : hold ≡ true → linearAt k c a ≡ drivenOf 0 kept
+  pub part : linear ≡ false → linearAt k c a ≡ drivenOf 0 kept
 
-pub record Usable (k : Circuit) (linear hold again : Bool) (c : Counters) (a kept system vector : List Float) : Type 0 where
+pub record Usable (k : Circuit) (places : List ℕ) (linear again : Bool) (c : Counters) (a kept system vector : List Float) : Type 0 where
+  pub listed : Listed (k .sheet) (length places) places
   pub none : linear ≡ true → hasDiodes (k .sheet) ≡ false
-  pub long : hold ≡ true → length kept ≡ length (k .base)
+  pub long : linear ≡ false → length kept ≡ length (k .base)
   pub later : again ≡ true → c .first ≡ false
-  pub holds : again ≡ true → Holds k linear hold c a kept system vector
+  pub holds : again ≡ true → Holds k linear c a kept system vector

@@ -1,4 +1,5 @@
 pub mod Sized
 pub mod Attempt
 pub mod Again
+pub mod Done
 pub mod Run

@@ -1,8 +1,7 @@
 -- The lengths with which a run works: N from 1 to 48, vectors of N, matrices of N (N + 1). Clients cite fits, Sized, resized, sized and sized-fits.
 use Prim.Native.Nat.{ℕ, _+_, _*_, _≤_, _<_}
-use mathlib.Core.Path.{_≡_, refl}
-use mathlib.Core.Bool.{Bool, true, false, cond, _&&_}
-use native.Mathlib.Omega.{arith}
+use mathlib.Core.Path.{_≡_}
+use mathlib.Core.Bool.{Bool, true, _&&_, and-eq-true-iff as both}
 use borrow.Author.Tests.{eqb-true, leb-true, eq-eqb, le-leb}
 use lib.Dec.{eqb, leb}
 
@@ -23,20 +22,15 @@ unfoldable pub fits : ℕ → ℕ → ℕ → ℕ → ℕ → Bool
 fits n accepted base elimination system =
     leb 1 n && (leb n 48 && (eqb accepted n && (eqb base (n * (n + 1)) && (eqb elimination (n * (n + 1)) && eqb system (n * (n + 1))))))
 
--- the two parts of a test
-pub both : (a b : Bool) → (a && b) ≡ true → (a ≡ true) × (b ≡ true)
-both true b e = (refl, e)
-both false b e = absurd (let z : _≡_ {A = ℕ} 0 1 = cc in omega arith)
-
 module _ (n accepted base elimination system : ℕ) where
   pub sized : fits n accepted base elimination system ≡ true → Sized n accepted base elimination system
   unfolding fits
   sized e =
-      let a = both (leb 1 n) _ e in
-      let b = both (leb n 48) _ (a .1) in
-      let c = both (eqb accepted n) _ (b .1) in
-      let d = both (eqb base (n * (n + 1))) _ (c .1) in
-      let w = both (eqb elimination (n * (n + 1))) _ (d .1) in
+      let a = both (leb 1 n) _ .0 e in
+      let b = both (leb n 48) _ .0 (a .1) in
+      let c = both (eqb accepted n) _ .0 (b .1) in
+      let d = both (eqb base (n * (n + 1))) _ .0 (c .1) in
+      let w = both (eqb elimination (n * (n + 1))) _ .0 (d .1) in
       record {
         some = leb-true 1 n (a .0);
         small = leb-true n 48 (b .0);

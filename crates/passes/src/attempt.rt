@@ -1,10 +1,11 @@
 // The attempt of a pass: stamping, solving and comparing. A pass is stamped in the elimination matrix; when it is whole, it is copied to the system and eliminated.
-// Where the pass before was stamped alike, its work is used again: all of it in a circuit without diodes, else what was stamped before the diodes, where a matrix is lent to hold that.
+// Where the pass before was stamped alike, its work is used again: all of it in a circuit without diodes, else what was stamped before the diodes, which a lent matrix holds.
 ghost use mathlib.Core.Path.{_≡_};
 ghost use mathlib.Core.Bool.{true, false};
 ghost use Prim.Native.Nat.{_+_, _*_, _≤_};
 ghost use lib.ListN.{length};
 ghost use Rattle.convergence.specs.Convergence.{convergenceOf};
+ghost use Rattle.groups.specs.Listed.{Listed};
 ghost use Rattle.groups.specs.Sources.{drivenOf};
 ghost use Rattle.groups.specs.Stamping.{linearOf};
 ghost use Rattle.steps.specs.Control.{reportOf};
@@ -30,15 +31,15 @@ use steps::DIODE;
 use steps::Report;
 use steps::report_of;
 
-// Stamps and solves one pass, and reports on it. `linear` says that there is no diode, `hold` that `kept` is there to be used, `again` that the pass before was stamped alike.
+// Stamps and solves one pass, and reports on it. `linear` says that there is no diode, else `kept` is there to be used; `again` says that the pass before was stamped alike; `places` lists the diodes.
 pub fn attempt(
     o: Options,
     nodes: usize,
     c: Counters,
     linear: bool,
-    hold: bool,
     again: bool,
     sheet: &[u8],
+    places: &[u8],
     points: &[u8],
     base: &[f64],
     accepted: &[f64],
@@ -49,9 +50,9 @@ pub fn attempt(
     memory: &mut [f64],
 ) -> Report
     requires sized { ⌜ Sized (length (now vector)) (length (now accepted)) (length (now base)) (length (now elimination)) (length (now system)) ⌝ }
-    requires usable { ⌜ Usable (circuitOf o nodes (length (now vector)) (now sheet) (now points) (now base)) linear hold again c (now accepted) (now kept) (now system) (now vector) ⌝ }
+    requires usable { ⌜ Usable (circuitOf o nodes (length (now vector)) (now sheet) (now points) (now base)) (now places) linear again c (now accepted) (now kept) (now system) (now vector) ⌝ }
     ensures all { λ r. ⌜ triedOf r (now (system .exit)) (now (vector .exit)) (now (memory .exit)) ≡ tried (attemptOf (circuitOf o nodes (length (now (vector .entry))) (now (sheet .entry)) (now (points .entry)) (now (base .entry)))) o nodes c (now (accepted .entry)) (now (system .entry)) (now (vector .entry)) (now (memory .entry)) ⌝ }
-    ensures held { λ r. ⌜ (solved r ≡ true → Holds (circuitOf o nodes (length (now (vector .entry))) (now (sheet .entry)) (now (points .entry)) (now (base .entry))) linear hold c (now (accepted .entry)) (now (kept .exit)) (now (system .exit)) (now (vector .exit))) ⌝ }
+    ensures held { λ r. ⌜ (solved r ≡ true → Holds (circuitOf o nodes (length (now (vector .entry))) (now (sheet .entry)) (now (points .entry)) (now (base .entry))) linear c (now (accepted .entry)) (now (kept .exit)) (now (system .exit)) (now (vector .exit))) ⌝ }
 {
     if linear & again {
         return compare(o, nodes, vector);
@@ -63,17 +64,7 @@ pub fn attempt(
         time: c.time,
         step: c.step,
     };
-    let k = stamp_first(
-        p,
-        hold,
-        again,
-        sheet,
-        points,
-        base,
-        accepted,
-        kept,
-        elimination,
-    );
+    let k = stamp_first(p, again, sheet, points, base, accepted, kept, elimination);
     if k != 0 {
         return failure(k);
     }
@@ -82,6 +73,7 @@ pub fn attempt(
         nodes,
         c.first,
         sheet,
+        places,
         elimination,
         system,
         vector,
@@ -106,10 +98,9 @@ fn failure(k: u8) -> Report
     Report::Sine
 }
 
-// What a pass has besides its diodes, stamped or taken from where it is kept.
+// What a pass has besides its diodes, stamped and kept where there is room for it, or taken from where it is kept.
 fn stamp_first(
     p: Pass,
-    hold: bool,
     again: bool,
     sheet: &[u8],
     points: &[u8],
@@ -119,20 +110,16 @@ fn stamp_first(
     elimination: &mut [f64],
 ) -> u8
     requires { ⌜ length (now elimination) ≡ length (now base) ⌝ }
-    requires { ⌜ (hold ≡ true → length (now kept) ≡ length (now base)) ⌝ }
-    requires { ⌜ (hold ≡ true → again ≡ true → linearOf p (now sheet) (now points) (now base) (now accepted) (now base) ≡ drivenOf 0 (now kept)) ⌝ }
+    requires { ⌜ (again ≡ true → (length (now kept) ≡ length (now base)) × (linearOf p (now sheet) (now points) (now base) (now accepted) (now base) ≡ drivenOf 0 (now kept))) ⌝ }
     ensures stamps { λ r. ⌜ drivenOf r (now (elimination .exit)) ≡ linearOf p (now (sheet .entry)) (now (points .entry)) (now (base .entry)) (now (accepted .entry)) (now (base .entry)) ⌝ }
-    ensures keeps { λ r. ⌜ (hold ≡ true → r ≡ 0 → now (kept .exit) ≡ now (elimination .exit)) ⌝ }
+    ensures keeps { λ r. ⌜ (length (now (kept .entry)) ≡ length (now (base .entry)) → r ≡ 0 → now (kept .exit) ≡ now (elimination .exit)) ⌝ }
 {
-    if hold & again {
+    if again {
         copy(kept, elimination);
         return 0;
     }
     let k = stamp_linear(p, sheet, points, base, accepted, elimination);
-    if hold {
-        copy(elimination, kept);
-        return k;
-    }
+    copy(elimination, kept);
     k
 }
 
@@ -142,15 +129,17 @@ fn finish(
     nodes: usize,
     first: bool,
     sheet: &[u8],
+    places: &[u8],
     elimination: &mut [f64],
     system: &mut [f64],
     vector: &mut [f64],
     memory: &mut [f64],
 ) -> Report
-    requires { ⌜ (1 ≤ length (now vector)) × (length (now vector) ≤ 48) × (length (now elimination) ≡ length (now vector) * (length (now vector) + 1)) × (length (now system) ≡ length (now elimination)) ⌝ }
+    requires sized { ⌜ (1 ≤ length (now vector)) × (length (now vector) ≤ 48) × (length (now elimination) ≡ length (now vector) * (length (now vector) + 1)) × (length (now system) ≡ length (now elimination)) ⌝ }
+    requires listed { ⌜ Listed (now sheet) (length (now places)) (now places) ⌝ }
     ensures { λ r. ⌜ triedOf r (now (system .exit)) (now (vector .exit)) (now (memory .exit)) ≡ finished o nodes first (now (sheet .entry)) (now (elimination .entry)) (now (system .entry)) (now (vector .entry)) (now (memory .entry)) ⌝ }
 {
-    let k = stamp_diodes(o, sheet, vector.len(), vector, memory, elimination);
+    let k = stamp_diodes(o, sheet, places, vector.len(), vector, memory, elimination);
     if k != 0 {
         return failure(k);
     }

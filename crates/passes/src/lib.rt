@@ -2,19 +2,22 @@
 mod attempt;
 
 ghost use mathlib.Core.Path.{_≡_};
-ghost use mathlib.Core.Bool.{true, false};
+ghost use mathlib.Core.Bool.{true, false, cond};
 ghost use Prim.Native.Nat.{_+_, _*_, _≤_};
 ghost use lib.ListN.{length};
 ghost use Rattle.groups.specs.Diodes.{hasDiodes};
+ghost use Rattle.groups.specs.Listed.{Listed};
 ghost use Rattle.steps.specs.Counters.{going as goingOf};
-ghost use Rattle.machine.specs.State.{stateOf, jobOf};
-ghost use Rattle.machine.specs.Machine.{dcPass, stepPass, pass as passOf, runFor};
+ghost use Rattle.machine.specs.State.{stateOf, jobOf, writtenOf};
+ghost use Rattle.machine.specs.Machine.{accepts as acceptsOf, pass as passOf, runFor};
 ghost use Rattle.passes.specs.Sized.{Sized, fits as fitsOf};
 ghost use Rattle.passes.specs.Attempt.{circuitOf, attemptOf};
 ghost use Rattle.passes.specs.Again.{alike as alikeOf, Usable, Holds};
+ghost use Rattle.passes.specs.Done.{dcDone, stepDone};
 ghost use Rattle.passes.specs.Run.{ranOf};
 use attempt::attempt;
 use groups::diodes::has_diodes;
+use groups::diodes::list_diodes;
 use loops::cells;
 use loops::copy;
 use machine::accepts;
@@ -23,6 +26,7 @@ use machine::write;
 use options::Options;
 use steps::Counters;
 use steps::DC;
+use steps::Report;
 use steps::TRANSIENT;
 use steps::dc_after;
 use steps::going;
@@ -55,6 +59,8 @@ pub fn run(
         elimination.len(),
         system.len(),
     ) {
+        let mut list = bytes();
+        let d = list_diodes(sheet, &mut list);
         return run_fitting(
             o,
             nodes,
@@ -62,6 +68,7 @@ pub fn run(
             c,
             budget,
             sheet,
+            &list[..d],
             points,
             base,
             accepted,
@@ -98,7 +105,7 @@ fn fits(n: usize, accepted: usize, base: usize, elimination: usize, system: usiz
     system == size
 }
 
-// At most `budget` passes. What is stamped before the diodes is held for the passes of a step, in a transient with diodes: DC has little of it, and without diodes the system is all.
+// At most `budget` passes, with the diodes' places listed. With diodes, what is stamped before them is held for the passes that are stamped alike; without, the system is all.
 fn run_fitting(
     o: Options,
     nodes: usize,
@@ -106,6 +113,7 @@ fn run_fitting(
     c: Counters,
     budget: u64,
     sheet: &[u8],
+    places: &[u8],
     points: &[u8],
     base: &[f64],
     accepted: &mut [f64],
@@ -115,25 +123,22 @@ fn run_fitting(
     memory: &mut [f64],
     rows: &mut [f64],
 ) -> Counters
-    requires { ⌜ Sized (length (now vector)) (length (now accepted)) (length (now base)) (length (now elimination)) (length (now system)) ⌝ }
+    requires sized { ⌜ Sized (length (now vector)) (length (now accepted)) (length (now base)) (length (now elimination)) (length (now system)) ⌝ }
+    requires listed { ⌜ Listed (now sheet) (length (now places)) (now places) ⌝ }
     ensures { λ r. ⌜ stateOf r (now (accepted .exit)) (now (system .exit)) (now (vector .exit)) (now (memory .exit)) (now (rows .exit)) ≡ runFor (attemptOf (circuitOf o nodes (length (now (vector .entry))) (now (sheet .entry)) (now (points .entry)) (now (base .entry)))) (jobOf o nodes transient) budget (stateOf c (now (accepted .entry)) (now (system .entry)) (now (vector .entry)) (now (memory .entry)) (now (rows .entry))) ⌝ }
 {
-    let linear = !has_diodes(sheet);
-    if linear | !transient {
-        let mut none = cells();
-        return turns(
+    if has_diodes(sheet) {
+        return run_holding(
             o,
             nodes,
             transient,
             c,
-            linear,
-            false,
             budget,
             sheet,
+            places,
             points,
             base,
             accepted,
-            &mut none[..0],
             elimination,
             system,
             vector,
@@ -141,17 +146,122 @@ fn run_fitting(
             rows,
         );
     }
+    let mut none = cells();
+    turns(
+        o,
+        nodes,
+        transient,
+        c,
+        true,
+        budget,
+        sheet,
+        places,
+        points,
+        base,
+        accepted,
+        &mut none[..0],
+        elimination,
+        system,
+        vector,
+        memory,
+        rows,
+    )
+}
+
+// The same with diodes: the matrix to hold what is stamped before them is no larger than it need be, since it is cleared in each run.
+fn run_holding(
+    o: Options,
+    nodes: usize,
+    transient: bool,
+    c: Counters,
+    budget: u64,
+    sheet: &[u8],
+    places: &[u8],
+    points: &[u8],
+    base: &[f64],
+    accepted: &mut [f64],
+    elimination: &mut [f64],
+    system: &mut [f64],
+    vector: &mut [f64],
+    memory: &mut [f64],
+    rows: &mut [f64],
+) -> Counters
+    requires sized { ⌜ Sized (length (now vector)) (length (now accepted)) (length (now base)) (length (now elimination)) (length (now system)) ⌝ }
+    requires listed { ⌜ Listed (now sheet) (length (now places)) (now places) ⌝ }
+    ensures { λ r. ⌜ stateOf r (now (accepted .exit)) (now (system .exit)) (now (vector .exit)) (now (memory .exit)) (now (rows .exit)) ≡ runFor (attemptOf (circuitOf o nodes (length (now (vector .entry))) (now (sheet .entry)) (now (points .entry)) (now (base .entry)))) (jobOf o nodes transient) budget (stateOf c (now (accepted .entry)) (now (system .entry)) (now (vector .entry)) (now (memory .entry)) (now (rows .entry))) ⌝ }
+{
+    if base.len() <= 272 {
+        return run_small(
+            o,
+            nodes,
+            transient,
+            c,
+            budget,
+            sheet,
+            places,
+            points,
+            base,
+            accepted,
+            elimination,
+            system,
+            vector,
+            memory,
+            rows,
+        );
+    }
+    run_large(
+        o,
+        nodes,
+        transient,
+        c,
+        budget,
+        sheet,
+        places,
+        points,
+        base,
+        accepted,
+        elimination,
+        system,
+        vector,
+        memory,
+        rows,
+    )
+}
+
+// The same for matrices of up to 272 numbers, which is N = 16.
+fn run_small(
+    o: Options,
+    nodes: usize,
+    transient: bool,
+    c: Counters,
+    budget: u64,
+    sheet: &[u8],
+    places: &[u8],
+    points: &[u8],
+    base: &[f64],
+    accepted: &mut [f64],
+    elimination: &mut [f64],
+    system: &mut [f64],
+    vector: &mut [f64],
+    memory: &mut [f64],
+    rows: &mut [f64],
+) -> Counters
+    requires sized { ⌜ Sized (length (now vector)) (length (now accepted)) (length (now base)) (length (now elimination)) (length (now system)) ⌝ }
+    requires listed { ⌜ Listed (now sheet) (length (now places)) (now places) ⌝ }
+    requires small { ⌜ length (now base) ≤ 272 ⌝ }
+    ensures { λ r. ⌜ stateOf r (now (accepted .exit)) (now (system .exit)) (now (vector .exit)) (now (memory .exit)) (now (rows .exit)) ≡ runFor (attemptOf (circuitOf o nodes (length (now (vector .entry))) (now (sheet .entry)) (now (points .entry)) (now (base .entry)))) (jobOf o nodes transient) budget (stateOf c (now (accepted .entry)) (now (system .entry)) (now (vector .entry)) (now (memory .entry)) (now (rows .entry))) ⌝ }
+{
     let n = base.len();
-    let mut kept = matrix();
+    let mut kept = small_matrix();
     turns(
         o,
         nodes,
         transient,
         c,
         false,
-        true,
         budget,
         sheet,
+        places,
         points,
         base,
         accepted,
@@ -164,6 +274,65 @@ fn run_fitting(
     )
 }
 
+// The same for all others.
+fn run_large(
+    o: Options,
+    nodes: usize,
+    transient: bool,
+    c: Counters,
+    budget: u64,
+    sheet: &[u8],
+    places: &[u8],
+    points: &[u8],
+    base: &[f64],
+    accepted: &mut [f64],
+    elimination: &mut [f64],
+    system: &mut [f64],
+    vector: &mut [f64],
+    memory: &mut [f64],
+    rows: &mut [f64],
+) -> Counters
+    requires sized { ⌜ Sized (length (now vector)) (length (now accepted)) (length (now base)) (length (now elimination)) (length (now system)) ⌝ }
+    requires listed { ⌜ Listed (now sheet) (length (now places)) (now places) ⌝ }
+    ensures { λ r. ⌜ stateOf r (now (accepted .exit)) (now (system .exit)) (now (vector .exit)) (now (memory .exit)) (now (rows .exit)) ≡ runFor (attemptOf (circuitOf o nodes (length (now (vector .entry))) (now (sheet .entry)) (now (points .entry)) (now (base .entry)))) (jobOf o nodes transient) budget (stateOf c (now (accepted .entry)) (now (system .entry)) (now (vector .entry)) (now (memory .entry)) (now (rows .entry))) ⌝ }
+{
+    let n = base.len();
+    let mut kept = matrix();
+    turns(
+        o,
+        nodes,
+        transient,
+        c,
+        false,
+        budget,
+        sheet,
+        places,
+        points,
+        base,
+        accepted,
+        &mut kept[..n],
+        elimination,
+        system,
+        vector,
+        memory,
+        rows,
+    )
+}
+
+// Room for the places of the diodes, in zeros.
+fn bytes() -> [u8; 256]
+    ensures { λ r. ⌜ length r ≡ 256 ⌝ }
+{
+    [0; 256]
+}
+
+// A matrix of order 16, in zeros.
+fn small_matrix() -> [f64; 272]
+    ensures { λ r. ⌜ length r ≡ 272 ⌝ }
+{
+    [0.0; 272]
+}
+
 // A matrix of the largest order, in zeros.
 fn matrix() -> [f64; 2352]
     ensures { λ r. ⌜ length r ≡ 2352 ⌝ }
@@ -171,16 +340,16 @@ fn matrix() -> [f64; 2352]
     [0.0; 2352]
 }
 
-// At most `budget` passes, with a matrix to hold what is stamped before the diodes, if `hold`.
+// At most `budget` passes, with a matrix to hold what is stamped before the diodes, unless there are none (`linear`).
 fn turns(
     o: Options,
     nodes: usize,
     transient: bool,
     c: Counters,
     linear: bool,
-    hold: bool,
     budget: u64,
     sheet: &[u8],
+    places: &[u8],
     points: &[u8],
     base: &[f64],
     accepted: &mut [f64],
@@ -192,7 +361,7 @@ fn turns(
     rows: &mut [f64],
 ) -> Counters
     requires sized { ⌜ Sized (length (now vector)) (length (now accepted)) (length (now base)) (length (now elimination)) (length (now system)) ⌝ }
-    requires usable { ⌜ (linear ≡ true → hasDiodes (now sheet) ≡ false) × (hold ≡ true → length (now kept) ≡ length (now base)) ⌝ }
+    requires usable { ⌜ (linear ≡ true → hasDiodes (now sheet) ≡ false) × (linear ≡ false → length (now kept) ≡ length (now base)) × Listed (now sheet) (length (now places)) (now places) ⌝ }
     ensures { λ r. ⌜ stateOf r (now (accepted .exit)) (now (system .exit)) (now (vector .exit)) (now (memory .exit)) (now (rows .exit)) ≡ runFor (attemptOf (circuitOf o nodes (length (now (vector .entry))) (now (sheet .entry)) (now (points .entry)) (now (base .entry)))) (jobOf o nodes transient) budget (stateOf c (now (accepted .entry)) (now (system .entry)) (now (vector .entry)) (now (memory .entry)) (now (rows .entry))) ⌝ }
 {
     let mut s = c;
@@ -208,9 +377,9 @@ fn turns(
             transient,
             s,
             linear,
-            hold,
             known & alike(s),
             sheet,
+            places,
             points,
             base,
             accepted,
@@ -237,16 +406,16 @@ fn alike(c: Counters) -> bool
     c.count != 0
 }
 
-// One pass, of DC or of the transient; an ended run stays as it is.
+// One pass: an attempt, and what follows it in DC or in the transient. An ended run stays as it is.
 fn pass(
     o: Options,
     nodes: usize,
     transient: bool,
     c: Counters,
     linear: bool,
-    hold: bool,
     again: bool,
     sheet: &[u8],
+    places: &[u8],
     points: &[u8],
     base: &[f64],
     accepted: &mut [f64],
@@ -258,87 +427,21 @@ fn pass(
     rows: &mut [f64],
 ) -> Counters
     requires sized { ⌜ Sized (length (now vector)) (length (now accepted)) (length (now base)) (length (now elimination)) (length (now system)) ⌝ }
-    requires usable { ⌜ Usable (circuitOf o nodes (length (now vector)) (now sheet) (now points) (now base)) linear hold again c (now accepted) (now kept) (now system) (now vector) ⌝ }
+    requires usable { ⌜ Usable (circuitOf o nodes (length (now vector)) (now sheet) (now points) (now base)) (now places) linear again c (now accepted) (now kept) (now system) (now vector) ⌝ }
     ensures all { λ r. ⌜ stateOf r (now (accepted .exit)) (now (system .exit)) (now (vector .exit)) (now (memory .exit)) (now (rows .exit)) ≡ passOf (attemptOf (circuitOf o nodes (length (now (vector .entry))) (now (sheet .entry)) (now (points .entry)) (now (base .entry)))) (jobOf o nodes transient) (stateOf c (now (accepted .entry)) (now (system .entry)) (now (vector .entry)) (now (memory .entry)) (now (rows .entry))) ⌝ }
-    ensures next { λ r. ⌜ (goingOf r ≡ true → alikeOf r ≡ true → Holds (circuitOf o nodes (length (now (vector .entry))) (now (sheet .entry)) (now (points .entry)) (now (base .entry))) linear hold r (now (accepted .exit)) (now (kept .exit)) (now (system .exit)) (now (vector .exit))) ⌝ }
+    ensures next { λ r. ⌜ (goingOf r ≡ true → alikeOf r ≡ true → Holds (circuitOf o nodes (length (now (vector .entry))) (now (sheet .entry)) (now (points .entry)) (now (base .entry))) linear r (now (accepted .exit)) (now (kept .exit)) (now (system .exit)) (now (vector .exit))) ⌝ }
 {
-    if c.phase == DC {
-        return dc_pass(
-            o,
-            nodes,
-            transient,
-            c,
-            linear,
-            hold,
-            again,
-            sheet,
-            points,
-            base,
-            accepted,
-            kept,
-            elimination,
-            system,
-            vector,
-            memory,
-            rows,
-        );
+    if !going(c) {
+        return c;
     }
-    if c.phase == TRANSIENT {
-        return step_pass(
-            o,
-            nodes,
-            c,
-            linear,
-            hold,
-            again,
-            sheet,
-            points,
-            base,
-            accepted,
-            kept,
-            elimination,
-            system,
-            vector,
-            memory,
-            rows,
-        );
-    }
-    c
-}
-
-// A pass of DC; where the transient begins, the first row is written.
-fn dc_pass(
-    o: Options,
-    nodes: usize,
-    transient: bool,
-    c: Counters,
-    linear: bool,
-    hold: bool,
-    again: bool,
-    sheet: &[u8],
-    points: &[u8],
-    base: &[f64],
-    accepted: &[f64],
-    kept: &mut [f64],
-    elimination: &mut [f64],
-    system: &mut [f64],
-    vector: &mut [f64],
-    memory: &mut [f64],
-    rows: &mut [f64],
-) -> Counters
-    requires sized { ⌜ Sized (length (now vector)) (length (now accepted)) (length (now base)) (length (now elimination)) (length (now system)) ⌝ }
-    requires usable { ⌜ Usable (circuitOf o nodes (length (now vector)) (now sheet) (now points) (now base)) linear hold again c (now accepted) (now kept) (now system) (now vector) ⌝ }
-    ensures all { λ r. ⌜ stateOf r (now (accepted .entry)) (now (system .exit)) (now (vector .exit)) (now (memory .exit)) (now (rows .exit)) ≡ dcPass (attemptOf (circuitOf o nodes (length (now (vector .entry))) (now (sheet .entry)) (now (points .entry)) (now (base .entry)))) (jobOf o nodes transient) (stateOf c (now (accepted .entry)) (now (system .entry)) (now (vector .entry)) (now (memory .entry)) (now (rows .entry))) ⌝ }
-    ensures next { λ r. ⌜ (goingOf r ≡ true → alikeOf r ≡ true → Holds (circuitOf o nodes (length (now (vector .entry))) (now (sheet .entry)) (now (points .entry)) (now (base .entry))) linear hold r (now (accepted .entry)) (now (kept .exit)) (now (system .exit)) (now (vector .exit))) ⌝ }
-{
     let r = attempt(
         o,
         nodes,
         c,
         linear,
-        hold,
         again,
         sheet,
+        places,
         points,
         base,
         accepted,
@@ -348,56 +451,45 @@ fn dc_pass(
         vector,
         memory,
     );
-    let d = dc_after(o, transient, r, c);
+    if c.phase == DC {
+        return dc_done(o, transient, r, c, vector, rows);
+    }
+    step_done(o, r, c, accepted, vector, rows)
+}
+
+// What follows the attempt of DC: the counters after it; where the transient begins, the first row is written.
+fn dc_done(
+    o: Options,
+    transient: bool,
+    report: Report,
+    c: Counters,
+    vector: &[f64],
+    rows: &mut [f64],
+) -> Counters
+    ensures { λ r. ⌜ writtenOf r (now (rows .exit)) ≡ dcDone o transient report c (now (vector .entry)) (now (rows .entry)) ⌝ }
+{
+    let d = dc_after(o, transient, report, c);
     if d.phase == TRANSIENT {
         return write(d, vector, rows);
     }
     d
 }
 
-// A pass of a step; where the step is accepted, its vector is kept, and the new time may get a row.
-fn step_pass(
+// What follows the attempt of a step: the counters after it; where the step is accepted, so is its vector, and the new time may get a row.
+fn step_done(
     o: Options,
-    nodes: usize,
+    report: Report,
     c: Counters,
-    linear: bool,
-    hold: bool,
-    again: bool,
-    sheet: &[u8],
-    points: &[u8],
-    base: &[f64],
     accepted: &mut [f64],
-    kept: &mut [f64],
-    elimination: &mut [f64],
-    system: &mut [f64],
-    vector: &mut [f64],
-    memory: &mut [f64],
+    vector: &[f64],
     rows: &mut [f64],
 ) -> Counters
-    requires sized { ⌜ Sized (length (now vector)) (length (now accepted)) (length (now base)) (length (now elimination)) (length (now system)) ⌝ }
-    requires usable { ⌜ Usable (circuitOf o nodes (length (now vector)) (now sheet) (now points) (now base)) linear hold again c (now accepted) (now kept) (now system) (now vector) ⌝ }
-    ensures all { λ r. ⌜ stateOf r (now (accepted .exit)) (now (system .exit)) (now (vector .exit)) (now (memory .exit)) (now (rows .exit)) ≡ stepPass (attemptOf (circuitOf o nodes (length (now (vector .entry))) (now (sheet .entry)) (now (points .entry)) (now (base .entry)))) o nodes (stateOf c (now (accepted .entry)) (now (system .entry)) (now (vector .entry)) (now (memory .entry)) (now (rows .entry))) ⌝ }
-    ensures next { λ r. ⌜ (goingOf r ≡ true → alikeOf r ≡ true → Holds (circuitOf o nodes (length (now (vector .entry))) (now (sheet .entry)) (now (points .entry)) (now (base .entry))) linear hold r (now (accepted .exit)) (now (kept .exit)) (now (system .exit)) (now (vector .exit))) ⌝ }
+    requires { ⌜ length (now vector) ≡ length (now accepted) ⌝ }
+    ensures writes { λ r. ⌜ writtenOf r (now (rows .exit)) ≡ stepDone o report c (now (vector .entry)) (now (rows .entry)) ⌝ }
+    ensures accepts { λ r. ⌜ now (accepted .exit) ≡ cond (acceptsOf report) (now (vector .entry)) (now (accepted .entry)) ⌝ }
 {
-    let r = attempt(
-        o,
-        nodes,
-        c,
-        linear,
-        hold,
-        again,
-        sheet,
-        points,
-        base,
-        accepted,
-        kept,
-        elimination,
-        system,
-        vector,
-        memory,
-    );
-    let d = step_after(o, r, c);
-    if accepts(r) {
+    let d = step_after(o, report, c);
+    if accepts(report) {
         copy(vector, accepted);
         return landed(o, d, vector, rows);
     }

@@ -1,20 +1,21 @@
 -- `passes::turns` meets its contract: what is left to run from each turn is the whole, and what the last pass left is what the next would make. Assumes nothing.
 use Prim.Native.Nat.{ℕ, _<_, _-_}
 use mathlib.Core.Path.{_≡_, refl, sym, ap, _∙_, subst}
-use mathlib.Core.Bool.{Bool, true, false, not, _&&_, false≢true}
+use mathlib.Core.Bool.{Bool, true, false, not, _&&_, false≢true, and-eq-true-iff as both}
 use mathlib.Core.List.{List}
 use lib.ListN.{length}
 use lib.Ieee.{Float}
 use native.Mathlib.Omega.{arith}
-use borrow.Author.Tests.{not-true}
+use borrow.Author.Tests.{not-true, not-false}
 use Rattle.options.specs.declared.Options.{Options}
 use Rattle.groups.specs.Diodes.{hasDiodes}
+use Rattle.groups.specs.Listed.{Listed}
 use Rattle.steps.specs.declared.Counters.{Counters}
 use Rattle.steps.specs.Counters.{going}
 use Rattle.machine.specs.State.{State, stateOf, Job, jobOf}
 use Rattle.machine.specs.Machine.{pass, runFor}
 use Rattle.machine.specs.Budget.{run-stopped, run-step}
-use Rattle.passes.specs.Sized.{resized, both}
+use Rattle.passes.specs.Sized.{resized}
 use Rattle.passes.specs.Attempt.{Circuit, circuitOf, attemptOf}
 use Rattle.passes.specs.Again.{alike, Holds, Usable}
 use Rattle.passes.proofs.Again.{later}
@@ -23,11 +24,11 @@ use Rattle.passes.proofs.turns.Statement.{statement}
 use Rattle.passes.proofs.turns.Tie as tie
 
 -- the next pass of a live run finds what the last one left
-abbrev Ready : Circuit → Bool → Bool → Bool → Counters → List Float → List Float → List Float → List Float → Type 0
-Ready k linear hold known c a kept s v = known ≡ true → going c ≡ true → alike c ≡ true → Holds k linear hold c a kept s v
+abbrev Ready : Circuit → Bool → Bool → Counters → List Float → List Float → List Float → List Float → Type 0
+Ready k linear known c a kept s v = known ≡ true → going c ≡ true → alike c ≡ true → Holds k linear c a kept s v
 
 -- the buffers are as long as they were, and what is left to run from here is the whole
-record Inv (k : Circuit) (linear hold : Bool) (j : Job) (budget : ℕ) (t₀ : State) (p₀ p e₀ e : List Float) (t : State) (left : ℕ) (known : Bool) : Type 0 where
+record Inv (k : Circuit) (linear : Bool) (j : Job) (budget : ℕ) (t₀ : State) (p₀ p e₀ e : List Float) (t : State) (left : ℕ) (known : Bool) : Type 0 where
   la : length (t .accepted) ≡ length (t₀ .accepted)
   lp : length p ≡ length p₀
   le : length e ≡ length e₀
@@ -35,7 +36,7 @@ record Inv (k : Circuit) (linear hold : Bool) (j : Job) (budget : ℕ) (t₀ : S
   lv : length (t .vector) ≡ length (t₀ .vector)
   lm : length (t .memory) ≡ length (t₀ .memory)
   lr : length (t .rows) ≡ length (t₀ .rows)
-  ready : Ready k linear hold known (t .counters) (t .accepted) p (t .system) (t .vector)
+  ready : Ready k linear known (t .counters) (t .accepted) p (t .system) (t .vector)
   same : runFor (attemptOf k) j left t ≡ runFor (attemptOf k) j budget t₀
 
 -- a pass takes one from the budget
@@ -46,31 +47,28 @@ taken o nodes n n₀ sheet points base j t s r left e p h q =
     ap (runFor f j (left - 1)) (subst (λ (n : ℕ). t ≡ pass (attemptOf (circuitOf o nodes n sheet points base)) j s) e p) ∙ (sym (run-step f j left s h) ∙ q)
 
 -- the order is written as the vector's length
-resize : (o : Options) (nodes n n₀ : ℕ) (sheet points : List ℕ) (base : List Float) (linear hold : Bool) (c : Counters) (a kept s v : List Float) → n ≡ n₀ → Holds (circuitOf o nodes n sheet points base) linear hold c a kept s v → Holds (circuitOf o nodes n₀ sheet points base) linear hold c a kept s v
-resize o nodes n n₀ sheet points base linear hold c a kept s v e h = rw (← e) h
+resize : (o : Options) (nodes n n₀ : ℕ) (sheet points : List ℕ) (base : List Float) (linear : Bool) (c : Counters) (a kept s v : List Float) → n ≡ n₀ → Holds (circuitOf o nodes n sheet points base) linear c a kept s v → Holds (circuitOf o nodes n₀ sheet points base) linear c a kept s v
+resize o nodes n n₀ sheet points base linear c a kept s v e h = rw (← e) h
 
 -- what is ready at a live pass is usable there
-usable : (o : Options) (nodes n n₀ : ℕ) (sheet points : List ℕ) (base : List Float) (linear hold known a g : Bool) (c : Counters) (acc kept s v : List Float) → n ≡ n₀ → (linear ≡ true → hasDiodes sheet ≡ false) → (hold ≡ true → length kept ≡ length base)
-    → Ready (circuitOf o nodes n₀ sheet points base) linear hold known c acc kept s v → a ≡ alike c → g ≡ going c → not g ≡ false → Usable (circuitOf o nodes n sheet points base) linear hold (known && a) c acc kept s v
-usable o nodes n n₀ sheet points base linear hold known a g c acc kept s v e none long ready ea eg live =
+usable : (o : Options) (nodes n n₀ : ℕ) (sheet places points : List ℕ) (base : List Float) (linear known a g : Bool) (c : Counters) (acc kept s v : List Float) → n ≡ n₀ → Listed sheet (length places) places → (linear ≡ true → hasDiodes sheet ≡ false) → (linear ≡ false → length kept ≡ length base)
+    → Ready (circuitOf o nodes n₀ sheet points base) linear known c acc kept s v → a ≡ alike c → g ≡ going c → not g ≡ false → Usable (circuitOf o nodes n sheet points base) places linear (known && a) c acc kept s v
+usable o nodes n n₀ sheet places points base linear known a g c acc kept s v e listed none long ready ea eg live =
     rw e
     record {
+      listed = listed;
       none = none;
       long = long;
-      later = λ q. later c (sym ea ∙ both known a q .1);
-      holds = λ q. ready (both known a q .0) (sym eg ∙ alive g live) (sym ea ∙ both known a q .1);
+      later = λ q. later c (sym ea ∙ both known a .0 q .1);
+      holds = λ q. ready (both known a .0 q .0) (sym eg ∙ not-false g live) (sym ea ∙ both known a .0 q .1);
     }
-  where
-    alive : (b : Bool) → not b ≡ false → b ≡ true
-    alive true h = refl
-    alive false h = absurd (false≢true (sym h))
 
 abbrev Inv-loop : tie.InvT-loop
-Inv-loop o nodes transient linear hold budget sheet points base accepted₀ kept₀ elimination₀ system₀ vector₀ memory₀ rows₀ s₀ left₀ known₀ accepted kept elimination system vector memory rows s left known =
-    Inv (circuitOf o nodes (length vector₀) sheet points base) linear hold (jobOf o nodes transient) budget (stateOf s₀ accepted₀ system₀ vector₀ memory₀ rows₀) kept₀ kept elimination₀ elimination (stateOf s accepted system vector memory rows) left known
+Inv-loop o nodes transient linear budget sheet places points base accepted₀ kept₀ elimination₀ system₀ vector₀ memory₀ rows₀ s₀ left₀ known₀ accepted kept elimination system vector memory rows s left known =
+    Inv (circuitOf o nodes (length vector₀) sheet points base) linear (jobOf o nodes transient) budget (stateOf s₀ accepted₀ system₀ vector₀ memory₀ rows₀) kept₀ kept elimination₀ elimination (stateOf s accepted system vector memory rows) left known
 
 abbrev μ-loop : tie.MeasureT-loop
-μ-loop o nodes transient linear hold budget sheet points base accepted₀ kept₀ elimination₀ system₀ vector₀ memory₀ rows₀ s₀ left₀ known₀ accepted kept elimination system vector memory rows s left known = left
+μ-loop o nodes transient linear budget sheet places points base accepted₀ kept₀ elimination₀ system₀ vector₀ memory₀ rows₀ s₀ left₀ known₀ accepted kept elimination system vector memory rows s left known = left
 
 loop-holds : tie.Need-loop-holds Inv-loop μ-loop
 loop-holds c = record { la = refl; lp = refl; le = refl; ls = refl; lv = refl; lm = refl; lr = refl; ready = λ k g a. absurd (false≢true k); same = refl }
@@ -81,8 +79,8 @@ returns c = sym (run-stopped _ _ _ _ (sym (c .before .going .ensures) ∙ not-tr
 pass-requires : tie.Need-pass-requires Inv-loop μ-loop
 pass-requires c κs =
     let i = c .before .before .before .before .before .before .before .before .before .before .before .loop .inv in
-    let z = c .before .before .before .before .before .before .before .before .before .before .before .before .before .before .before .before .before .before .before .before .before .before .pre in
-    (resized _ _ _ _ _ _ _ _ _ (z .0) (i .lv) (i .la) (i .le) (i .ls), usable _ _ _ _ _ _ _ _ _ _ _ _ _ _ _ _ _ (i .lv) (z .1 .0) (λ h. i .lp ∙ z .1 .1 h) (i .ready) (c .before .before .before .before .before .before .before .alike .ensures) (c .before .before .before .before .before .before .before .before .before .going .ensures) (c .before .before .before .before .before .before .before .before .if1 .left))
+    let z = c .before .before .before .before .before .before .before .before .before .before .before .before .before .before .before .before .before .before .before .before .before .before .before .pre in
+    (resized _ _ _ _ _ _ _ _ _ (z .0) (i .lv) (i .la) (i .le) (i .ls), usable _ _ _ _ _ _ _ _ _ _ _ _ _ _ _ _ _ (i .lv) (z .1 .2) (z .1 .0) (λ h. i .lp ∙ z .1 .1 h) (i .ready) (c .before .before .before .before .before .before .before .alike .ensures) (c .before .before .before .before .before .before .before .before .before .going .ensures) (c .before .before .before .before .before .before .before .before .if1 .left))
 
 loop-again : tie.Need-loop-again Inv-loop μ-loop
 loop-again c =
@@ -97,7 +95,7 @@ loop-again c =
       lv = x .kept .1 .1 .1 .1 .1 .1 .1 .1 .1 .1 .1 .1 .1 .1 .0 ∙ i .lv;
       lm = x .kept .1 .1 .1 .1 .1 .1 .1 .1 .1 .1 .1 .1 .1 .1 .1 .0 ∙ i .lm;
       lr = x .kept .1 .1 .1 .1 .1 .1 .1 .1 .1 .1 .1 .1 .1 .1 .1 .1 .0 ∙ i .lr;
-      ready = λ k g b. resize _ _ _ _ _ _ _ _ _ _ _ _ _ _ (i .lv) (x .ensures .1 g b);
+      ready = λ k g b. resize _ _ _ _ _ _ _ _ _ _ _ _ _ (i .lv) (x .ensures .1 g b);
       same = taken _ _ _ _ _ _ _ _ _ _ _ (l .left) (i .lv) (x .ensures .0) (c .before .before .before .before .before .before .before .before .before .before .before .before .before .before .before .before .before .before .before .before .before .before .before .before .before .loop-test .taken) (i .same);
     }
 

@@ -15,11 +15,11 @@ returns c = rw (c .enum-told .given .1)
 
 returns-2 : tie.Need-returns-2
 unfolding dependentWrites
-returns-2 c = rw (c .before .before .before .before .before .before .before .before .before .before .before .before .before .d .given .1, c .before .before .before .before .before .before .before .before .before .before .e .given .1, ← c .before .before .before .before .before .before .before .before .row-of .ensures) (c .before .before .stamp-vcvs .ensures)
+returns-2 c = rw (c .before .before .before .before .before .before .before .before .before .d .given .1, c .before .before .before .before .before .before .e .given .1, ← c .before .before .before .before .row-of .ensures) (c .before .before .vcvs .ensures)
 
 returns-3 : tie.Need-returns-3
 unfolding dependentWrites
-returns-3 c = rw (c .before .before .before .before .before .before .before .before .before .before .before .before .d .given .1, c .before .before .before .before .before .before .before .before .before .e2 .given .1) (c .before .before .stamp-vccs .ensures)
+returns-3 c = rw (c .before .before .before .before .before .before .before .before .d .given .1, c .before .before .before .before .before .e2 .given .1) (c .before .before .vccs .ensures)
 
 returns-4 : tie.Need-returns-4
 unfolding stamped
@@ -29,7 +29,4 @@ pub dependent-one-spec : {M : Type 1} → statement M
 dependent-one-spec =
     tie.close
     (tie.spec
-    (λ c. search needs) (λ c. search needs) returns (λ c. search needs) (λ c κs. search needs) (λ c. search needs) (λ c. search needs)
-    (λ c. search needs) (λ c. search needs) (λ c κs. search needs) (λ c. search needs) (λ c. search needs) (λ c. search needs)
-    (λ c. search needs) (λ c. search needs) (λ c κs. search needs) (λ c. search needs) returns-2 (λ c. search needs) returns-3
-    returns-4)
+    (λ c. search needs) (λ c. search needs) returns (λ c. search needs) (λ c κs. search needs) (λ c κs. search needs) (λ c. search needs) (λ c κs. search needs) (λ c. search needs) returns-2 (λ c. search needs) returns-3 returns-4)

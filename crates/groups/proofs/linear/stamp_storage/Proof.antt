@@ -25,7 +25,7 @@ loop-again : tie.Need-loop-again Inv-loop μ-loop
 loop-again c =
     let a = c .before .before .before .before .before .before .before .before .before .before .before .args in
     let l = c .before .before .before .before .before .before .loop in
-    (search needs, search needs, one-more (storageWrites (a .n) (a .x .now) (a .step)) (a .n) (a .sheet .now) (a .m .now) 8 8 (quiet-storage (a .n) (a .x .now) (a .step)) (l .i) _ _ (l .inv .2) (rw (c .before .before .before .before .record-in .ensures) at (c .before .before .storage-one .ensures)))
+    (search needs, search needs, one-more (storageWrites (a .n) (a .x .now) (a .step)) (a .n) (a .sheet .now) (a .m .now) 8 8 (quiet-storage (a .n) (a .x .now) (a .step)) (l .i) _ _ (l .inv .2) (rw (c .before .before .before .before .record-of .ensures) at (c .before .before .storage-one .ensures)))
 
 returns : tie.Need-returns Inv-loop μ-loop
 unfolding storageOf

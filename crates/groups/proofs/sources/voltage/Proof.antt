@@ -7,7 +7,10 @@ returns : tie.Need-returns
 returns c = rw (c .enum-told .given .1)
 
 returns-2 : tie.Need-returns-2
-returns-2 c = rw (c .before .before .before .before .before .l .given .1, c .before .before .stamp-voltage .ensures)
+returns-2 c = rw (c .before .before .before .before .before .before .before .before .l .given .1, ← c .before .before .before .before .before .before .row-of .ensures, c .before .before .stamp-voltage .ensures)
 
 pub voltage-spec : {M : Type 1} → statement M
-voltage-spec = tie.close (tie.spec (λ c. search needs) (λ c. search needs) returns (λ c κs. search needs) (λ c. search needs) returns-2)
+voltage-spec =
+    tie.close
+    (tie.spec
+    (λ c. search needs) (λ c. search needs) returns (λ c κs. search needs) (λ c. search needs) (λ c. search needs) (λ c κs. search needs) (λ c. search needs) returns-2)

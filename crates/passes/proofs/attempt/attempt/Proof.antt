@@ -1,7 +1,7 @@
 -- `passes::attempt::attempt` meets its contract: the pass before again, or a pass of its own. Assumes nothing.
 use Prim.Native.Nat.{ℕ}
 use mathlib.Core.Path.{_≡_, refl, sym, ap, _∙_}
-use mathlib.Core.Bool.{Bool, true, false, cond, false≢true}
+use mathlib.Core.Bool.{Bool, true, false, cond, _&&_, false≢true, and-eq-true-iff as both}
 use mathlib.Core.List.{List}
 use lib.Dec.{eqb}
 use lib.Ieee.{Float}
@@ -11,7 +11,6 @@ use Rattle.steps.specs.declared.Report.the-variants.{Diode, Sine}
 use Rattle.steps.specs.Verdicts.{diode}
 use Rattle.steps.specs.Laws.{solved}
 use Rattle.machine.specs.State.{triedOf}
-use Rattle.passes.specs.Sized.{both}
 use Rattle.passes.specs.Again.{failureOf}
 use Rattle.passes.proofs.Joins.{whole-code, unstamped, stamped-first, repeated, leaves}
 use borrow.Author.Needs.{needs}
@@ -26,17 +25,26 @@ unsolved k r e s = go (eqb k diode) (ap solved (sym e) ∙ s)
     go true h = false≢true h
     go false h = false≢true h
 
+-- the first of two, where not both hold and the second does
+alone : (a b : Bool) → (a && b) ≡ false → b ≡ true → a ≡ false
+alone true b e h = absurd (false≢true (sym e ∙ h))
+alone false b e h = refl
+
 returns : tie.Need-returns
 returns c =
-    let u = c .before .before .before .before .before .before .before .before .before .before .before .before .pre .1 in
-    let b = both (c .before .before .before .before .before .before .before .before .before .before .before .before .args .linear) _ (c .before .before .if1 .taken) in
+    let u = c .before .before .before .before .before .before .before .before .before .before .before .before .before .pre .1 in
+    let b = both (c .before .before .before .before .before .before .before .before .before .before .before .before .before .args .linear) _ .0 (c .before .before .if1 .taken) in
     let h = u .holds (b .1) in
     (rw (c .compare .ensures) (repeated _ _ _ _ _ _ (u .none (b .0)) (h .whole (b .0) .0) (h .whole (b .0) .1) (u .later (b .1))), λ _. h)
 
 stamp-first-requires : tie.Need-stamp-first-requires
 stamp-first-requires c κs =
-    let z = c .before .before .before .before .before .before .before .before .before .before .before .before .before .pre in
-    (z .0 .works ∙ sym (z .0 .bases), (z .1 .long, λ h a. z .1 .holds a .part h))
+    let z = c .before .before .before .before .before .before .before .before .before .before .before .before .before .before .pre in (
+      z .0 .works ∙ sym (z .0 .bases),
+      λ a.
+          let d = alone _ _ (c .before .before .before .if1 .left) a in
+          (z .1 .long d, z .1 .holds a .part d),
+    )
 
 returns-2 : tie.Need-returns-2
 returns-2 c =
@@ -45,19 +53,19 @@ returns-2 c =
 
 finish-requires : tie.Need-finish-requires
 finish-requires c κs =
-    let z = c .before .before .before .before .before .before .before .before .before .before .before .before .before .before .before .before .before .before .before .before .before .before .before .pre .0 in
-    let l = c .before .before .before .before .before .before .before .before .before .stamp-first .kept .1 .1 .1 .1 .1 .1 .1 .1 .0 ∙ z .works in
-    (z .some, z .small, l, z .systems ∙ sym l)
+    let z = c .before .before .before .before .before .before .before .before .before .before .before .before .before .before .before .before .before .before .before .before .before .before .before .before .pre in
+    let l = c .before .before .before .before .before .before .before .before .before .stamp-first .kept .1 .1 .1 .1 .1 .1 .1 .0 ∙ z .0 .works in
+    ((z .0 .some, z .0 .small, l, z .0 .systems ∙ sym l), z .1 .listed)
 
 returns-3 : tie.Need-returns-3
 returns-3 c =
-    let u = c .before .before .before .before .before .before .before .before .before .before .before .before .before .before .before .before .before .before .before .before .before .before .before .before .before .before .before .before .before .before .before .before .pre .1 in
+    let u = c .before .before .before .before .before .before .before .before .before .before .before .before .before .before .before .before .before .before .before .before .before .before .before .before .before .before .before .before .before .before .before .before .before .pre .1 in
     let t = c .before .before .before .before .before .before .before .before .before .before .before .before .before .before .before .before .before .before .stamp-first in
-    let a = c .before .before .before .before .before .before .before .before .before .before .before .before .before .before .before .before .before .before .before .before .before .before .before .before .before .before .before .before .before .before .before .before .args in
+    let a = c .before .before .before .before .before .before .before .before .before .before .before .before .before .before .before .before .before .before .before .before .before .before .before .before .before .before .before .before .before .before .before .before .before .args in
     let k = c .before .before .before .before .before .before .before .before .before .before .before .before .before .if2 .left in
     let e = whole-code _ _ _ k (t .ensures .0) in
     let f = c .before .before .before .before .before .before .before .before .finish .ensures in
-    (f ∙ stamped-first _ _ _ _ _ _ _ e refl, λ _. leaves _ _ _ (a .system .now) (a .vector .now) (a .memory .now) _ _ _ _ _ _ _ _ (u .none) refl e (λ h. t .ensures .1 h k) f)
+    (f ∙ stamped-first _ _ _ _ _ _ _ e refl, λ _. leaves _ _ _ (a .system .now) (a .vector .now) (a .memory .now) _ _ _ _ _ _ _ (u .none) refl e (λ h. t .ensures .1 (u .long h) k) f)
 
 pub attempt-spec : {M : Type 1} → statement M
 attempt-spec =

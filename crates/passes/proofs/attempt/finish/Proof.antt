@@ -10,18 +10,19 @@ use Rattle.passes.proofs.attempt.finish.Tie as tie
 
 returns : tie.Need-returns
 returns c =
-    let a = c .before .before .before .before .before .before .before .before .before .before .before .before .before .before .before .args in
-    rw (c .failure .ensures) (finish-failed (a .o) (a .nodes) (a .first) (a .sheet .now) (a .elimination .now) (a .system .now) (a .vector .now) (a .memory .now) _ _ _ (c .before .before .before .before .before .before .stamp-diodes .ensures) (c .before .if1 .taken))
+    let s = c .before .before .before .before .before .before .before .before .before .before .before .before .before .before .before .before in
+    let a = s .args in
+    rw (c .failure .ensures) (finish-failed (a .o) (a .nodes) (a .first) (a .sheet .now) (a .elimination .now) (a .system .now) (a .vector .now) (a .memory .now) _ _ _ (c .before .before .before .before .before .before .stamp-diodes .ensures (s .pre .1)) (c .before .if1 .taken))
 
 renew-requires : tie.Need-renew-requires
-renew-requires c κs = let z = c .before .before .before .before .before .before .before .before .before .before .before .before .before .before .before .before .before .before .before .before .before .pre in (z .0, z .1, c .before .before .before .before .before .before .before .before .before .before .before .before .stamp-diodes .kept .1 .1 .1 .1 .1 .0 ∙ z .2)
+renew-requires c κs = let z = c .before .before .before .before .before .before .before .before .before .before .before .before .before .before .before .before .before .before .before .before .before .before .pre in (z .0 .0, z .0 .1, c .before .before .before .before .before .before .before .before .before .before .before .before .stamp-diodes .kept .1 .1 .1 .1 .1 .1 .0 ∙ z .0 .2)
 
 returns-2 : tie.Need-returns-2
 returns-2 c =
-    let a = c .before .before .before .before .before .before .before .before .before .before .before .before .before .before .before .before .before .before .before .before .before .before .before .before .before .before .args in
-    let z = c .before .before .before .before .before .before .before .before .before .before .before .before .before .before .before .before .before .before .before .before .before .before .before .before .before .before .pre in
+    let a = c .before .before .before .before .before .before .before .before .before .before .before .before .before .before .before .before .before .before .before .before .before .before .before .before .before .before .before .args in
+    let z = c .before .before .before .before .before .before .before .before .before .before .before .before .before .before .before .before .before .before .before .before .before .before .before .before .before .before .before .pre in
     let d = c .before .before .before .before .before .before .before .before .before .before .before .before .before .before .before .before .before .stamp-diodes in
-    finish-solved (a .o) (a .nodes) (a .first) (a .sheet .now) (a .elimination .now) (a .system .now) (a .vector .now) (a .memory .now) _ _ _ (d .ensures) (c .before .before .before .before .before .before .before .before .before .before .before .before .if1 .left) _ _ _ (c .before .before .before .before .before .before .before .before .before .copy .ensures ∙ copied-same _ _ (d .kept .1 .1 .1 .1 .1 .0 ∙ sym (z .3))) (c .before .before .before .before .renew .ensures)
+    finish-solved (a .o) (a .nodes) (a .first) (a .sheet .now) (a .elimination .now) (a .system .now) (a .vector .now) (a .memory .now) _ _ _ (d .ensures (z .1)) (c .before .before .before .before .before .before .before .before .before .before .before .before .if1 .left) _ _ _ (c .before .before .before .before .before .before .before .before .before .copy .ensures ∙ copied-same _ _ (d .kept .1 .1 .1 .1 .1 .1 .0 ∙ sym (z .0 .3))) (c .before .before .before .before .renew .ensures)
 
 pub finish-spec : {M : Type 1} → statement M
 finish-spec =
