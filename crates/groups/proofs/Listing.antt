@@ -1,5 +1,5 @@
--- The making of a list of diodes, one record at each turn, and a pass over the list and the records that are not listed. Assumes nothing.
-use Prim.Native.Nat.{ℕ, _+_, _-_, _<_, min}
+-- The making of a list of diodes, one record at each turn. Assumes nothing.
+use Prim.Native.Nat.{ℕ, _+_, _<_}
 use mathlib.Core.Path.{_≡_, refl, sym, ap, _∙_}
 use mathlib.Core.Bool.{Bool, true, false, cond, _||_, false≢true}
 use mathlib.Core.List.{List}
@@ -13,16 +13,15 @@ use lib.Seq.{getD-set-same, getD-set-other}
 use lib.Ieee.{Float}
 use Rattle.options.specs.declared.Options.{Options}
 use Rattle.loops.specs.Loop.{turns}
-use Rattle.loops.specs.Laws.{turns-ext, turns-add}
+use Rattle.loops.specs.Laws.{turns-ext}
 use Rattle.sheet.specs.declared.Decoded.{Decoded}
 use Rattle.sheet.specs.declared.Decoded.the-variants.{Good, Refused}
 use Rattle.sheet.specs.Record.{recordAt, kindAt, diodeOf, elementOf, usesOf, restZero, ifZero, decodeOf}
-use Rattle.sheet.specs.Check.{recordsOf}
 use Rattle.groups.specs.Records.{elementAt, onRecord}
 use Rattle.groups.specs.Passing.{outside, recordIn, in-group}
 use Rattle.groups.specs.Quiet.{quiet-biased}
-use Rattle.groups.specs.Diodes.{Stamped, stampedOf, biased, biasedAt, diodesOf}
-use Rattle.groups.specs.Listed.{goodOf, diodeIn, asDiode, listedAt, restAt, ListedTo, Listed}
+use Rattle.groups.specs.Diodes.{Stamped, stampedOf, biased, biasedAt}
+use Rattle.groups.specs.Listed.{goodOf, diodeIn, asDiode, listedAt, ListedTo}
 
 -- ---- one record
 
@@ -92,18 +91,3 @@ module _ (sheet list : List ℕ) where
             let old : turns c (listedAt o sheet n x (set list c k)) s ≡ turns c (listedAt o sheet n x list) s
             = turns-ext (listedAt o sheet n x (set list c k)) (listedAt o sheet n x list) c s (λ j p y. ap (λ (i : ℕ). asDiode o sheet n x i y) (getD-set-other list c j k 0 (λ q. omega arith))) in
             rw (getD-set-same list c k 0 l, old, h .all o n x s) (read-diode sheet k o n x (turns k (biasedAt o sheet n x) s) e)
-
--- ---- a pass
-
--- the listed records, and then the rest
-pub whole : (o : Options) (sheet list : List ℕ) (n : ℕ) (x m y : List Float) (s t : Stamped) → Listed sheet (length list) list → s ≡ turns (length list) (listedAt o sheet n x list) (stampedOf 0 m y) → t ≡ turns (recordsOf sheet - 256) (restAt o sheet n x) s → t ≡ diodesOf o sheet n x m y
-unfolding diodesOf
-whole o sheet list n x m y s t h e f =
-    let a = min (recordsOf sheet) 256 in
-    let b = recordsOf sheet - 256 in
-    let g = biasedAt o sheet n x in
-    let u : a + b ≡ recordsOf sheet = omega arith in
-    f
-    ∙ (ap (turns b (restAt o sheet n x)) (e ∙ h .all o n x (stampedOf 0 m y))
-    ∙ (turns-ext (restAt o sheet n x) (λ (i : ℕ). g (a + i)) b (turns a g (stampedOf 0 m y)) (λ i l z. ap (λ (k : ℕ). g k z) (omega arith))
-    ∙ (sym (turns-add g (stampedOf 0 m y) a b) ∙ ap (λ (k : ℕ). turns k g (stampedOf 0 m y)) u)))

@@ -11,8 +11,8 @@ ghost use lib.ListN.{length, set};
 ghost use Rattle.loops.specs.Loop.{turns};
 ghost use Rattle.sheet.specs.Record.{diodeOf};
 ghost use Rattle.sheet.specs.Check.{recordsOf};
-ghost use Rattle.groups.specs.Diodes.{stampedOf, companion, biased, biasedAt, diodesOf, hasDiodes};
-ghost use Rattle.groups.specs.Listed.{diodeIn, asDiode, listedAt, restAt, Listed};
+ghost use Rattle.groups.specs.Diodes.{stampedOf, companion, biased, biasedAt, hasDiodes};
+ghost use Rattle.groups.specs.Listed.{diodeIn, asDiode, listedAt, restAt, Listed, listedOf};
 
 // The kind of a diode's record.
 const DIODE: u8 = 4;
@@ -69,7 +69,7 @@ pub fn has_diodes(sheet: &[u8]) -> bool
     found
 }
 
-// Stamps the diodes at the vector x, in the order of the records, and answers 0 or the verdict that ended it. `places` lists those among the first 256 records.
+// Stamps the records at `places`, each as a diode at the vector x, and then the diodes after the first 256 records, and answers 0 or the verdict that ended it.
 pub fn stamp_diodes(
     o: Options,
     sheet: &[u8],
@@ -79,7 +79,7 @@ pub fn stamp_diodes(
     memory: &mut [f64],
     m: &mut [f64],
 ) -> u8
-    ensures { λ r. ⌜ (Listed (now (sheet .entry)) (length (now (places .entry))) (now (places .entry)) → stampedOf r (now (m .exit)) (now (memory .exit)) ≡ diodesOf o (now (sheet .entry)) n (now (x .entry)) (now (m .entry)) (now (memory .entry))) ⌝ }
+    ensures { λ r. ⌜ stampedOf r (now (m .exit)) (now (memory .exit)) ≡ listedOf o (now (sheet .entry)) (now (places .entry)) n (now (x .entry)) (now (m .entry)) (now (memory .entry)) ⌝ }
 {
     let code = stamp_listed(o, sheet, places, n, x, memory, m);
     stamp_rest(code, o, sheet, n, x, memory, m)

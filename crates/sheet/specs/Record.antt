@@ -1,6 +1,7 @@
--- The element sheet: what stands in a record, and what a record means. Clients cite recordAt, kindAt and decodeOf.
+-- The element sheet: what stands in a record, and what a record means. Clients cite recordAt, kindAt, decodeOf, decodeAs and decode-own.
 -- Records of 40 bytes, no header, little-endian. A byte past the end counts as 0.
 use Prim.Native.Nat.{ℕ, zero, suc, _+_, _*_}
+use mathlib.Core.Path.{_≡_}
 use mathlib.Core.Bool.{Bool, true, false, cond, _&&_, _||_}
 use mathlib.Core.List.{List}
 use lib.ListN.{getD, take, drop}
@@ -119,3 +120,12 @@ ifZero false (Good e) = Refused 7
 -- what a record means: the element of its kind, or 6, or 7
 unfoldable pub decodeOf : List ℕ → Decoded
 decodeOf r = ifZero (restZero (usesOf (getD r 0 0)) r) (elementOf (getD r 0 0) r)
+
+-- a record's bytes decoded as if they began with a kind
+unfoldable pub decodeAs : ℕ → List ℕ → Decoded
+decodeAs kind r = ifZero (restZero (usesOf kind) r) (elementOf kind r)
+
+-- as its own kind a record is what it is
+pub decode-own : (kind : ℕ) (r : List ℕ) → kind ≡ getD r 0 0 → decodeAs kind r ≡ decodeOf r
+unfolding decodeAs decodeOf
+decode-own kind r e = rw e

@@ -5,8 +5,8 @@ mod range;
 mod record;
 
 ghost use mathlib.Core.Path.{_≡_};
-ghost use lib.ListN.{length, getD};
-ghost use Rattle.sheet.specs.Record.{recordAt, kindAt, decodeOf};
+ghost use lib.ListN.{length};
+ghost use Rattle.sheet.specs.Record.{recordAt, kindAt, decodeOf, decodeAs};
 ghost use Rattle.sheet.specs.Row.{rowOf};
 ghost use Rattle.sheet.specs.Check.{checkOf, recordsOf, refusalOf, numberOf, placeOf, badSheet, badPoints};
 
@@ -126,7 +126,7 @@ pub fn decode(bytes: &[u8]) -> Decoded
 
 // The element of a record's bytes, told their first byte; where that is a constant, the compiler leaves out the other kinds.
 fn decode_as(kind: u8, bytes: &[u8]) -> Decoded
-    ensures { λ r. ⌜ (kind ≡ getD (now (bytes .entry)) 0 0 → r ≡ decodeOf (now (bytes .entry))) ⌝ }
+    ensures { λ r. ⌜ r ≡ decodeAs kind (now (bytes .entry)) ⌝ }
 {
     let d = record::element_of(kind, bytes);
     let Decoded::Good(_) = d else {
@@ -160,9 +160,9 @@ pub fn element_at(sheet: &[u8], i: usize) -> Decoded
     decode(record_at(sheet, i))
 }
 
-// The element of record i, for a caller that knows its kind byte already.
+// Record i decoded as of a kind, for a caller that knows its kind byte already.
 pub fn element_as(sheet: &[u8], i: usize, kind: u8) -> Decoded
-    ensures { λ r. ⌜ (kindAt (now (sheet .entry)) i ≡ kind → r ≡ decodeOf (recordAt (now (sheet .entry)) i)) ⌝ }
+    ensures { λ r. ⌜ r ≡ decodeAs kind (recordAt (now (sheet .entry)) i) ⌝ }
 {
     decode_as(kind, record_at(sheet, i))
 }

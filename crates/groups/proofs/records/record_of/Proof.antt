@@ -1,6 +1,7 @@
 -- `groups::records::record_of` meets its contract: by the test on the kind byte. Assumes nothing.
 use borrow.Author.Needs.{needs}
 use mathlib.Core.Path.{sym, _∙_}
+use Rattle.sheet.specs.Record.{decode-own}
 use Rattle.groups.specs.Passing.{recordIn, apart, itself}
 use Rattle.groups.proofs.records.record_of.Statement.{statement}
 use Rattle.groups.proofs.records.record_of.Tie as tie
@@ -13,7 +14,7 @@ returns-2 : tie.Need-returns-2
 unfolding recordIn
 returns-2 c =
     let k = sym (c .before .before .kind-at .ensures) ∙ c .before .if1 .left in
-    rw (itself _ _ k) (c .element-as .ensures k)
+    rw (itself _ _ k) (c .element-as .ensures ∙ decode-own _ _ (sym k))
 
 pub record-of-spec : {M : Type 1} → statement M
 record-of-spec = tie.close (tie.spec (λ c κs. search needs) returns (λ c κs. search needs) returns-2)
