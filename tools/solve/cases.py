@@ -1,6 +1,6 @@
 #!/usr/bin/env python3
-# Writes crates/solve_cases/specs/Cases.antt: systems of 1 to 8 rows with the bits that Python's doubles give for them, worked on lists of rows as document 01 says it.
-# usage: tools/solve/cases.py > crates/solve_cases/specs/Cases.antt; rt fmt
+# Writes crates/solve_cases/specs/laws/Cases.antt: systems of 1 to 8 rows with the bits that Python's doubles give for them, worked on lists of rows as document 01 says it.
+# usage: tools/solve/cases.py > crates/solve_cases/specs/laws/Cases.antt; rt fmt
 import math
 import random
 import struct
@@ -112,6 +112,7 @@ use mathlib.Core.List.{List, [], _∷_, map}
 use lib.ListN.{replicate}
 use lib.Ieee.{Float, binary64, ofBits, toBits, add, sub, mul, div, lt, eq}
 use Rattle.num.specs.Floats.{nought, absoluteOf}
+use Rattle.num.specs.Literals.{one}
 use Rattle.solve.specs.Solve.{Solved, solveOf, indexOfNextAbs, swapped, lessScaled, reduced, cleared, column, eliminated, dot, unknown, lastUnknown, substituted, solution}
 
 pub record Case : Type 0 where
@@ -123,7 +124,7 @@ pub record Case : Type 0 where
 -- the system's bits in, both buffers' bits out, the vector being full of ones before
 answer : Case → ℕ × List ℕ × List ℕ
 answer c =
-    let s = solveOf (c .rows) (map (ofBits binary64) (c .given)) (replicate (c .rows) (ofBits binary64 0x3ff0000000000000)) in
+    let s = solveOf (c .rows) (map (ofBits binary64) (c .given)) (replicate (c .rows) one) in
     (s .refusal, map (toBits binary64) (s .matrix), map (toBits binary64) (s .vector))
 
 expected : Case → ℕ × List ℕ × List ℕ

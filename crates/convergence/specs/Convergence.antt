@@ -1,4 +1,4 @@
--- What the convergence check answers. Clients cite convergenceOf and numberOf.
+-- What the convergence check answers. Clients cite convergenceOf and numberOf. Definitions only.
 use Prim.Native.Nat.{ℕ}
 use mathlib.Core.Bool.{Bool, true, false, cond}
 use mathlib.Core.List.{List}
@@ -7,6 +7,7 @@ use lib.ListN.{getD, length}
 use lib.Ieee as Ieee
 use lib.Ieee.{Float, nan, binary64}
 use lib.Ieee.Scale.{finite}
+use Rattle.numbers.specs.Refusals.{byRoom}
 use Rattle.num.specs.Floats.{absoluteOf}
 use Rattle.loops.specs.Loop.{turns}
 use Rattle.options.specs.declared.Options.{Options}
@@ -18,7 +19,7 @@ abbrev pub numberOf : Convergence → ℕ
 numberOf Yes = 0
 numberOf No = 1
 numberOf Error = 2
-numberOf Refused = 5
+numberOf Refused = byRoom
 
 -- |x| RELTOL + VNTOL (nodes) or ABSTOL (sources)
 unfoldable pub limit : Float → Bool → Options → Float

@@ -1,2 +1,3 @@
+-- What the convergence check answers. Definitions, and `laws` with computed cases.
 pub mod Convergence
-pub mod Cases
+pub mod laws

@@ -10,7 +10,7 @@ use lib.Dec.{eqb, lit<}
 use Rattle.decimal.specs.declared.shortest.Span.{Span}
 use Rattle.decimal.specs.declared.shortest.Number.{Number}
 use Rattle.decimal.specs.Shortest.{spanOf, lowEdge, candidateOf, numberOf, unlessNone}
-use Rattle.decimal.specs.Units.{power-pos}
+use Rattle.decimal.specs.laws.Units.{power-pos}
 use Rattle.decimal.proofs.Units.{whole-few}
 
 pub edge-few : (m : ℕ) (narrow : Bool) → m < 2 ^ 53 → lowEdge m narrow < 2 ^ 56

@@ -13,7 +13,7 @@ use lib.Pow.{pow-add, pow-pos}
 use lib.ListN.{length, getD, set, drop, length-set}
 use lib.Seq.{getD-set-other}
 use Rattle.decimal.specs.Limbs.{value, Few, Holds, Divided}
-use Rattle.decimal.specs.Units.{power-pos}
+use Rattle.decimal.specs.laws.Units.{power-pos}
 use Rattle.decimal.proofs.Value.{value-set, value-drop, few-set}
 
 -- ---- times a power

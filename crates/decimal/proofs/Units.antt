@@ -11,7 +11,7 @@ use lib.ListN.{length}
 use Rattle.decimal.specs.declared.scale.Cut.{Cut}
 use Rattle.decimal.specs.Limbs.{value, Holds}
 use Rattle.decimal.specs.Scale.{placeOf, top, bottom, cutOf}
-use Rattle.decimal.specs.Units.{Quarter, quarter-facts, bottom-pos, power-pos}
+use Rattle.decimal.specs.laws.Units.{Quarter, quarter-facts, bottom-pos, power-pos}
 use Rattle.decimal.proofs.Powers.{even-twice}
 
 -- ---- two steps on limbs are one

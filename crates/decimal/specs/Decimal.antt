@@ -1,5 +1,5 @@
--- A float as decimal digits. Clients cite decimalOf, readBack and, in ReadBack, the law that joins them.
-use mathlib.Core.Bool.{Bool, true, false, _&&_, cond}
+-- A float as decimal digits. Clients cite decimalOf, readBack and, in laws/ReadBack.antt, the law that joins them. Definitions only.
+use mathlib.Core.Bool.{Bool, false, _&&_, cond}
 use Prim.Native.Nat.{ℕ, _+_, _*_, _/_, _%_, _^_}
 use lib.Dec.{eqb, leb, ltb}
 use lib.Ieee.{Float, nan, inf, binary64, round, toBits, isNan}

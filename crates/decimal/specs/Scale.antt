@@ -1,6 +1,5 @@
 -- Decimal units for the floats of one exponent. A float whose exponent's field is b (a subnormal's counts as 1) is a whole number of steps of 2 ^ (b - 1075).
 -- Its decimal unit is 10 ^ (placeOf b - 326): a hundredth to a tenth of a quarter of the step. Clients cite placeOf, cutOf, top and bottom.
-use mathlib.Core.Bool.{Bool}
 use Prim.Native.Nat.{ℕ, _+_, _*_, _/_, _%_, _^_}
 use lib.Dec.{eqb}
 use Rattle.decimal.specs.declared.scale.Cut.{Cut}

@@ -1,6 +1,6 @@
--- Which decimal number stands for a float: of the numbers next to it, tried from one digit on and the nearer first, the first that reads back. Clients cite numberOf and spanOf.
-use mathlib.Core.Bool.{Bool, true, false, not, _&&_, _||_, cond}
-use Prim.Native.Nat.{ℕ, zero, suc, _+_, _-_, _*_, _/_, _%_, _^_, _<_, _≤_}
+-- Which decimal number stands for a float: of the numbers next to it, tried from one digit on and the nearer first, the first that reads back. Clients cite numberOf and spanOf. Definitions only.
+use mathlib.Core.Bool.{Bool, true, not, _&&_, cond}
+use Prim.Native.Nat.{ℕ, zero, suc, _+_, _-_, _*_, _/_, _%_, _^_, _<_}
 use lib.Dec.{eqb, leb, ltb}
 use Rattle.decimal.specs.declared.scale.Cut.{Cut}
 use Rattle.decimal.specs.declared.shortest.Span.{Span}

@@ -10,7 +10,8 @@ use borrow.Author.Tests.{ltb-true, ltb-false}
 use lib.Dec.{ltb}
 use lib.Pow.{pow-mono}
 use lib.ListN.{length, getD, set, length-set}
-use Rattle.exact.specs.Limbs.{value, above}
+use Rattle.exact.specs.Limbs.{value}
+use Rattle.exact.specs.laws.Limbs.{above}
 use Rattle.exact.specs.Rows.{Carried}
 
 -- the weight of the limb above

@@ -7,7 +7,8 @@ use native.Mathlib.Omega.{arith}
 use lib.Dec.{lit<}
 use lib.ListN.{length, getD, take, drop, drop-of-length-le}
 use lib.Pow.{pow-pos}
-use Rattle.exact.specs.Limbs.{value, above}
+use Rattle.exact.specs.Limbs.{value}
+use Rattle.exact.specs.laws.Limbs.{above}
 
 -- the limbs below i and those from i on
 pub split : (xs : List ℕ) (i : ℕ) → value xs ≡ value (take i xs) + 2 ^ (64 * i) * value (drop i xs)

@@ -10,8 +10,8 @@ use lib.Dec.{ltb, lit≤}
 use lib.Pow.{pow-add}
 use lib.ListN.{length, getD, take}
 use Rattle.exact.specs.Limbs.{value}
-use Rattle.exact.specs.Units.{Small, small-size}
-use Rattle.exact.specs.Rows.{cap, Spacious, Room}
+use Rattle.exact.specs.laws.Units.{small-size}
+use Rattle.exact.specs.Rows.{cap, Spacious, Room, Small}
 use Rattle.exact.proofs.Order.{split, low, next, none-past}
 
 -- the topmost of 66 limbs says whether the row is below 2 ^ 4223

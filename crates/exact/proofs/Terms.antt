@@ -10,8 +10,10 @@ use lib.Dec.{T}
 use lib.ListN.{length, getD}
 use lib.Ieee.{Float, unlike}
 use lib.Ieee.Scale.{finite}
-use Rattle.exact.specs.Limbs.{value, limbsOf, limbs-are}
-use Rattle.exact.specs.Exact.{units, sign, times}
+use Rattle.exact.specs.Limbs.{value, limbsOf}
+use Rattle.exact.specs.laws.Limbs.{limbs-are}
+use Rattle.num.specs.Floats.{sign}
+use Rattle.exact.specs.Exact.{units, times}
 use Rattle.exact.specs.Rows.{Room, Sum, Adds}
 use Rattle.exact.specs.Kept.{isRow, hasRoom, rowsOf, checkOf, keptOf}
 use Rattle.exact.specs.declared.Kept.the-variants.{Added, NotFinite, NoRoom, WrongLength}

@@ -1,17 +1,13 @@
--- Exact numbers of floats, as whole numbers of units with a side for each sign. Clients cite units, size, sign, Exact, none, times, whole, added, opposite, within. Definitions only.
+-- Exact numbers of floats, as whole numbers of units with a side for each sign. Clients cite units, size, Exact, none, times, whole, added, opposite, within. Definitions only.
 use Prim.Native.Nat.{ℕ, _+_, _*_, _/_, _^_}
-use mathlib.Core.Bool.{Bool, false, cond, _&&_}
+use mathlib.Core.Bool.{Bool, cond, _&&_}
 use lib.Dec.{leb}
-use lib.Ieee.{Float, nan, inf, fin, binary64, unlike, ofBits}
+use lib.Ieee.{Float, unlike}
 use lib.Ieee.Positive.{num, den}
+use Rattle.num.specs.Floats.{sign}
+use Rattle.num.specs.Literals.{one}
 
--- whether a number stands with a minus
-abbrev pub sign : Float → Bool
-sign nan = false
-sign (inf s) = s
-sign (fin s m e) = s
-
--- the size of a finite float in units of 2 ^ -1074. "Finite floats are whole multiples of 2^-1074": the quotient leaves nothing (Units.units-exact)
+-- the size of a finite float in units of 2 ^ -1074. "Finite floats are whole multiples of 2^-1074": the quotient leaves nothing (laws/Units.antt, units-exact)
 unfoldable pub units : Float → ℕ
 units x = num x * 2 ^ 1074 / den x
 
@@ -29,10 +25,6 @@ times x y = record {
   plus = cond (unlike (sign x) (sign y)) 0 (units x * units y);
   minus = cond (unlike (sign x) (sign y)) (units x * units y) 0;
 }
-
--- 1.0
-abbrev pub one : Float
-one = ofBits binary64 0x3ff0_0000_0000_0000
 
 -- a finite float: its product with 1.0
 abbrev pub whole : Float → Exact

@@ -1,4 +1,4 @@
--- What keeping a sum answers and leaves in the two rows of limbs that the caller lends. Clients cite rowsOf, keptOf, withinOf; the laws about many terms are in Sums. Definitions only.
+-- What keeping a sum answers and leaves in the two rows of limbs that the caller lends. Clients cite rowsOf, keptOf, withinOf; the laws about many terms are in laws/Sums.antt. Definitions only.
 use Prim.Native.Nat.{ℕ, _+_, _^_}
 use mathlib.Core.Bool.{Bool, cond, _&&_}
 use mathlib.Core.List.{List}
@@ -6,14 +6,15 @@ use lib.Dec.{eqb, ltb}
 use lib.ListN.{length}
 use lib.Ieee.{Float}
 use lib.Ieee.Scale.{finite}
+use Rattle.numbers.specs.Limits.{sumLimbs}
 use Rattle.exact.specs.Limbs.{value, limbsOf}
 use Rattle.exact.specs.Exact.{Exact, times, within}
 use Rattle.exact.specs.declared.Kept.{Kept}
 use Rattle.exact.specs.declared.Kept.the-variants.{Added, NotFinite, NoRoom, WrongLength}
 
--- a row is 66 limbs
+-- a row is so many limbs
 abbrev pub isRow : List ℕ → Bool
-isRow l = eqb (length l) 66
+isRow l = eqb (length l) sumLimbs
 
 -- a row has room while it is below 2 ^ 4223 units: for 2 ^ 27 products at least
 abbrev pub hasRoom : List ℕ → Bool
@@ -39,7 +40,7 @@ checkOf p m x y =
 
 -- e is added, or nothing changes
 abbrev pub leave : Kept → List ℕ → List ℕ → Exact → Rows
-leave Added p m e = rowsOf Added (limbsOf 66 (value p + e .plus)) (limbsOf 66 (value m + e .minus))
+leave Added p m e = rowsOf Added (limbsOf sumLimbs (value p + e .plus)) (limbsOf sumLimbs (value m + e .minus))
 leave NotFinite p m e = rowsOf NotFinite p m
 leave NoRoom p m e = rowsOf NoRoom p m
 leave WrongLength p m e = rowsOf WrongLength p m

@@ -1,7 +1,7 @@
--- Exact sums: what the limbs stand for, what a float's exact number is, and what adding to a kept sum leaves.
+-- Exact sums: what the limbs stand for, what a float's exact number is, and what adding to a kept sum leaves. Definitions, and `laws` with what holds of them.
 pub mod Limbs
 pub mod Exact
 pub mod Kept
-pub mod Units
 pub mod Rows
 pub mod Sums
+pub mod laws

@@ -3,8 +3,14 @@ use mathlib.Core.Path.{_≡_}
 use mathlib.Core.List.{List}
 use Prim.Native.Nat.{ℕ, _+_, _*_, _^_, _≤_, _<_}
 use lib.ListN.{length}
+use Rattle.numbers.specs.Limits.{sumLimbs}
 use Rattle.exact.specs.Limbs.{value}
 use Rattle.exact.specs.Exact.{Exact}
+
+-- digits and the place of the lowest, as a float has them
+pub record Small (digits place : ℕ) : Type 0 where
+  pub few : digits < 2 ^ 53
+  pub low : place ≤ 2045
 
 -- no product of two finite floats has more units
 unfoldable pub cap : ℕ
@@ -12,12 +18,12 @@ cap = 2 ^ 4196
 
 -- the limbs have room for a product
 pub record Spacious (l : List ℕ) : Type 0 where
-  pub limbs : 66 ≤ length l
+  pub limbs : sumLimbs ≤ length l
   pub room : value l + cap < 2 ^ (64 * length l)
 
--- 66 limbs that have it
+-- the limbs of a row, and they have it
 pub record Room (l : List ℕ) : Type 0 where
-  pub limbs : length l ≡ 66
+  pub limbs : length l ≡ sumLimbs
   pub room : value l < 2 ^ 4223
 
 -- l has become l′ by adding n
@@ -33,7 +39,7 @@ pub record Carried (l : List ℕ) (i n carry : ℕ) (l′ : List ℕ) : Type 0 w
 
 -- w is a row of one limb more that stands for the same
 pub record Wide (l w : List ℕ) : Type 0 where
-  pub limbs : length w ≡ 67
+  pub limbs : length w ≡ sumLimbs + 1
   pub same : value w ≡ value l
 
 -- p and m have become p′ and m′ by adding e

@@ -8,16 +8,16 @@ ghost use Prim.Native.Nat.{_+_, _^_, _<_, _≤_};
 ghost use lib.Dec.{T, leb};
 ghost use lib.ListN.{length, getD};
 ghost use lib.Ieee.Scale.{finite};
+ghost use Rattle.numbers.specs.Limits.{sumLimbs};
 ghost use Rattle.exact.specs.Limbs.{value, limbsOf};
-ghost use Rattle.exact.specs.Exact.{times, one, size};
+ghost use Rattle.num.specs.Literals.{one};
+ghost use Rattle.exact.specs.Exact.{times, size};
 ghost use Rattle.exact.specs.Kept.{hasRoom, rowsOf, checkOf, keptOf, withinOf};
 ghost use Rattle.exact.specs.Rows.{Room, Adds};
+use numbers::limit::SUM_LIMBS;
 
-// Limbs in a row.
-pub const LIMBS: usize = 66;
-
-// The place of the topmost.
-const TOP: usize = 65;
+// The place of a row's topmost limb.
+const TOP: usize = SUM_LIMBS - 1;
 
 // 2^63: a row whose topmost limb is below it is below 2^4223 units.
 const ROOM: u64 = 9223372036854775808;
@@ -34,10 +34,10 @@ pub enum Kept {
 }
 
 // A row that stands for 0.
-pub fn empty() -> [u64; LIMBS]
-    ensures { λ r. ⌜ r ≡ limbsOf 66 0 ⌝ }
+pub fn empty() -> [u64; SUM_LIMBS]
+    ensures { λ r. ⌜ r ≡ limbsOf sumLimbs 0 ⌝ }
 {
-    [0; LIMBS]
+    [0; SUM_LIMBS]
 }
 
 // Makes a row that is lent stand for 0.
@@ -95,10 +95,10 @@ pub fn at_most(a: &[u64], b: &[u64]) -> bool
 pub fn within(plus: &[u64], minus: &[u64], t: f64) -> bool
     ensures { λ r. ⌜ r ≡ withinOf (now (plus .entry)) (now (minus .entry)) t ⌝ }
 {
-    if plus.len() != LIMBS {
+    if plus.len() != SUM_LIMBS {
         return false;
     }
-    if minus.len() != LIMBS {
+    if minus.len() != SUM_LIMBS {
         return false;
     }
     if !num::finite(t) {
@@ -114,10 +114,10 @@ pub fn within(plus: &[u64], minus: &[u64], t: f64) -> bool
 fn check(plus: &[u64], minus: &[u64], x: f64, y: f64) -> Kept
     ensures { λ r. ⌜ r ≡ checkOf (now (plus .entry)) (now (minus .entry)) x y ⌝ }
 {
-    if plus.len() != LIMBS {
+    if plus.len() != SUM_LIMBS {
         return Kept::WrongLength;
     }
-    if minus.len() != LIMBS {
+    if minus.len() != SUM_LIMBS {
         return Kept::WrongLength;
     }
     if !num::finite(x) {
@@ -137,7 +137,7 @@ fn check(plus: &[u64], minus: &[u64], x: f64, y: f64) -> Kept
 
 // Whether a row is below 2^4223 units: its topmost limb says it.
 fn has_room(l: &[u64]) -> bool
-    requires { ⌜ length (now l) ≡ 66 ⌝ }
+    requires { ⌜ length (now l) ≡ sumLimbs ⌝ }
     ensures { λ r. ⌜ r ≡ hasRoom (now (l .entry)) ⌝ }
 {
     l[TOP] < ROOM
@@ -159,7 +159,7 @@ fn add_term(plus: &mut [u64], minus: &mut [u64], x: f64, y: f64)
 
 // Whether b is at most a and t's size together. One limb more than a row has leaves room for any t.
 fn reaches(a: &[u64], t: f64, b: &[u64]) -> bool
-    requires { ⌜ (length (now a) ≡ 66) × T (finite t) ⌝ }
+    requires { ⌜ (length (now a) ≡ sumLimbs) × T (finite t) ⌝ }
     ensures { λ r. ⌜ r ≡ leb (value (now (b .entry))) (value (now (a .entry)) + size t) ⌝ }
 {
     let mut sum = limbs::copied(a);

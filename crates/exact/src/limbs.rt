@@ -4,11 +4,13 @@ ghost use mathlib.Core.Bool.{cond};
 ghost use Prim.Native.Nat.{_+_, _*_, _/_, _%_, _^_, _<_};
 ghost use lib.Dec.{ltb};
 ghost use lib.ListN.{length};
+ghost use Rattle.numbers.specs.Limits.{sumLimbs};
 ghost use Rattle.exact.specs.Limbs.{value, limbsOf};
 ghost use Rattle.exact.specs.Rows.{Sum, Carried, Wide};
+use numbers::limit::SUM_LIMBS;
 
 // Limbs in a row with one limb more.
-const WIDE: usize = 67;
+const WIDE: usize = SUM_LIMBS + 1;
 
 // 2^27.
 const HALF: u64 = 134217728;
@@ -35,7 +37,7 @@ pub fn add_product(limbs: &mut [u64], bit: usize, a: u64, b: u64)
 
 // The row with one limb more, which is 0.
 pub fn copied(l: &[u64]) -> [u64; WIDE]
-    requires { ⌜ length (now l) ≡ 66 ⌝ }
+    requires { ⌜ length (now l) ≡ sumLimbs ⌝ }
     ensures { λ r. ⌜ Wide (now (l .entry)) r ⌝ }
 {
     let mut r = blank();
@@ -46,7 +48,7 @@ pub fn copied(l: &[u64]) -> [u64; WIDE]
 }
 
 fn blank() -> [u64; WIDE]
-    ensures { λ r. ⌜ r ≡ limbsOf 67 0 ⌝ }
+    ensures { λ r. ⌜ r ≡ limbsOf (sumLimbs + 1) 0 ⌝ }
 {
     [0; WIDE]
 }

@@ -3,9 +3,9 @@ ghost use mathlib.Core.Path.{_≡_};
 ghost use Prim.Native.Nat.{_+_, _*_, _^_, _<_};
 ghost use lib.Dec.{T};
 ghost use lib.Ieee.Scale.{finite};
-ghost use Rattle.exact.specs.Exact.{units, sign};
-ghost use Rattle.exact.specs.Units.{Small};
-ghost use Rattle.exact.specs.Rows.{Spacious, Sum};
+ghost use Rattle.num.specs.Floats.{sign};
+ghost use Rattle.exact.specs.Exact.{units};
+ghost use Rattle.exact.specs.Rows.{Spacious, Sum, Small};
 
 // 2^63, the sign's bit.
 const SIGN: u64 = 9223372036854775808;

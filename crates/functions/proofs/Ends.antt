@@ -15,7 +15,7 @@ use Rattle.functions.specs.declared.Sine.{Sine}
 use Rattle.functions.specs.declared.Sine.the-variants.{Value, Refused}
 use Rattle.functions.specs.Ln.{lnPositive, lnOf}
 use Rattle.functions.specs.Sin.{pick, sinNear, sinFar, sinOf, SinRange}
-use Rattle.functions.specs.Values as values
+use Rattle.functions.specs.laws.Values as values
 
 abbrev zero· : Float
 zero· = fin false 0 (pos 0)

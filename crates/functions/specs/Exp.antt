@@ -7,7 +7,8 @@ use lib.IntN.{pos}
 use lib.Dec.{T}
 use lib.Ieee.{Float, nan, inf, fin, binary64, unlike, lt, ofBits, isNan}
 use lib.Ieee.Positive.{num, den}
-use Rattle.functions.specs.Fraction.{Fraction, sumOf, sign}
+use Rattle.num.specs.Floats.{sign}
+use Rattle.functions.specs.Fraction.{Fraction, sumOf}
 use Rattle.functions.specs.Reduction.{nearestOf, leftOf, belowOf}
 use Rattle.functions.specs.Words.{horner, upper, packed}
 

@@ -3,8 +3,9 @@ use Prim.Native.Nat.{ℕ, _+_, _-_, _*_, _^_, _≤_}
 use mathlib.Core.Bool.{Bool, true, false, not, cond}
 use mathlib.Core.List.{List, [], _∷_}
 use lib.ListN.{length}
-use lib.Ieee.{Float, nan, inf, fin}
+use lib.Ieee.{Float}
 use lib.Ieee.Positive.{num, den}
+use Rattle.num.specs.Floats.{sign}
 
 -- the fraction (plus - minus) / den
 pub record Fraction : Type 0 where
@@ -24,12 +25,6 @@ added a b = record { plus = a .plus * b .den + b .plus * a .den; minus = a .minu
 abbrev pub negated : Bool → Fraction → Fraction
 negated false a = a
 negated true a = record { plus = a .minus; minus = a .plus; den = a .den }
-
--- whether a float stands with a minus
-abbrev pub sign : Float → Bool
-sign nan = false
-sign (inf s) = s
-sign (fin s m e) = s
 
 -- a finite float as a fraction; num x / den x is its size
 abbrev pub valueOf : Float → Fraction

@@ -1,4 +1,4 @@
--- What exp, ln and sin answer, and the theorems about them. Read Exp, Ln and Sin, then Values and Bounds; `laws` holds the way to the bounds.
+-- What exp, ln and sin answer. Read Exp, Ln and Sin; then, in `laws`, Values and Bounds.
 pub mod Fraction
 pub mod Reduction
 pub mod Words
@@ -6,5 +6,3 @@ pub mod Exp
 pub mod Sin
 pub mod Ln
 pub mod laws
-pub mod Bounds
-pub mod Values

@@ -5,7 +5,8 @@ use mathlib.Core.Bool.{Bool}
 use lib.Dec.{ltb}
 use lib.Ieee.{Float, unlike}
 use lib.Ieee.Positive.{num, den}
-use Rattle.functions.specs.Fraction.{apart, sign}
+use Rattle.num.specs.Floats.{sign}
+use Rattle.functions.specs.Fraction.{apart}
 
 -- at a size n / d: the whole number nearest to n * 2 ^ 64 / (M d)
 unfoldable pub nearestOf : ℕ → ℕ → ℕ → ℕ

@@ -1,4 +1,4 @@
--- sin: what it answers, and the sums that the answer is held against. Clients cite sinOf, refusalOf and numberOf. Definitions only.
+-- sin: what it answers, and the sums that the answer is held against. Clients cite sinOf, sineRefusal and numberOf. Definitions only.
 use Prim.Native.Nat.{ℕ, zero, suc, _+_, _-_, _*_, _/_, _%_, _^_, _≤_}
 use mathlib.Core.Bool.{Bool, true, false, cond}
 use mathlib.Core.List.{List, [], _∷_}
@@ -6,9 +6,11 @@ use lib.Dec.{T, ltb, leb, eqb}
 use lib.Ieee.{Float, nan, inf, fin, binary64, unlike, neg, ofBits, size}
 use lib.Ieee.Scale.{finite}
 use lib.Ieee.Positive.{num, den}
+use Rattle.numbers.specs.Refusals.{byArgument}
 use Rattle.functions.specs.declared.Sine.{Sine}
 use Rattle.functions.specs.declared.Sine.the-variants.{Value, Refused}
-use Rattle.functions.specs.Fraction.{Fraction, alternating, negated, sign}
+use Rattle.num.specs.Floats.{sign}
+use Rattle.functions.specs.Fraction.{Fraction, alternating, negated}
 use Rattle.functions.specs.Reduction.{nearestOf, leftOf, belowOf, kOf}
 use Rattle.functions.specs.Words.{falling, upper, packed, unitsOf}
 
@@ -76,9 +78,9 @@ sinOf (inf s) = Value nan
 sinOf (fin s m e) = pick (leb (num (fin s m e)) (2 ^ 20 * den (fin s m e))) (Value (sinNear (fin s m e))) Refused
 
 -- the paper's number for an answer, 0 where it is no refusal, and the answer's value
-abbrev pub refusalOf : Sine → ℕ
-refusalOf (Value r) = 0
-refusalOf Refused = 12
+abbrev pub sineRefusal : Sine → ℕ
+sineRefusal (Value r) = 0
+sineRefusal Refused = byArgument
 
 abbrev pub numberOf : Sine → Float
 numberOf (Value r) = r

@@ -1,4 +1,6 @@
--- The way from the definitions to the bounds.
+-- Values and Bounds say what holds of exp, ln and sin; the others are the way from the definitions to the bounds.
+pub mod Values
+pub mod Bounds
 pub mod Product
 pub mod Horner
 pub mod Bits64

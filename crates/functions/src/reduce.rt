@@ -5,7 +5,7 @@ ghost use Prim.Native.Nat.{ℕ, _+_, _*_, _/_, _%_, _^_, _<_, _≤_};
 ghost use lib.Dec.{T};
 ghost use lib.Ieee.Scale.{finite};
 ghost use lib.Ieee.Positive.{num, den};
-ghost use Rattle.functions.specs.Fraction.{sign};
+ghost use Rattle.num.specs.Floats.{sign};
 ghost use Rattle.functions.specs.Words.{sizeOf};
 ghost use Rattle.functions.specs.Reduction.{nearestOf, leftOf, belowOf, kOf, fTop};
 

@@ -8,7 +8,7 @@ use native.Mathlib.Numerals.{add-one}
 use lib.ListN.{length, getD, take, drop, drop-of-length-le}
 use lib.Seq.{drop-cons, getD-take, length-take-le}
 use lib.Ieee.{Float}
-use Rattle.judge.specs.Judge.{every}
+use Rattle.num.specs.Lists.{every}
 
 module _ (p : Float → Bool) (d : Float) where
   -- every entry passes: the one at i does

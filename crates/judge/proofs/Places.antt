@@ -10,7 +10,8 @@ use borrow.Author.Tests.{ne-eqb, le-ltb}
 use lib.ListN.{length, take}
 use lib.Ieee.{Float}
 use Rattle.exact.specs.Exact.{none, times, added}
-use Rattle.judge.specs.Judge.{«at», total, named, every, allowed, refusalOf}
+use Rattle.num.specs.Lists.{«at», every}
+use Rattle.judge.specs.Judge.{total, named, allowed, judgeRefusal}
 use Rattle.judge.specs.declared.Judged.the-variants.{Accepted, Rejected}
 
 -- 48 rows of 49 at most
@@ -58,6 +59,6 @@ nothing m x from = refl
 
 -- where 1 and 5 do not apply, the numbers decide
 pub numbers-decide : (n : ℕ) (m x t : List Float) → (n ≡ 0 → ⊥) → n ≤ 48 → n * (n + 1) ≤ length m → n ≤ length x → n ≤ length t
-    → refusalOf n m x t ≡ cond (every (allowed false) (take (n * (n + 1)) m) && (every (allowed false) (take n x) && every (allowed true) (take n t))) 0 11
-unfolding refusalOf
+    → judgeRefusal n m x t ≡ cond (every (allowed false) (take (n * (n + 1)) m) && (every (allowed false) (take n x) && every (allowed true) (take n t))) 0 11
+unfolding judgeRefusal
 numbers-decide n m x t a b c d e = rw (ne-eqb n 0 a, le-ltb 48 n b, le-ltb (length m) (n * (n + 1)) c, le-ltb (length x) n d, le-ltb (length t) n e)

@@ -1,19 +1,19 @@
--- What the judge answers. Clients cite judgeOf, refusalOf and numbersOf, and the laws in Laws that say exactly when. Definitions only.
+-- What the judge answers. Clients cite judgeOf, judgeRefusal and numbersOf, and the laws in laws/Judge.antt that say exactly when. Definitions only.
 use mathlib.Core.Path.{_≡_}
 use Prim.Native.Nat.{ℕ, zero, suc, _+_, _*_, _≤_, _<_}
 use mathlib.Core.Bool.{Bool, true, false, not, cond, _&&_, _||_}
-use mathlib.Core.List.{List, [], _∷_}
+use mathlib.Core.List.{List}
 use lib.Dec.{ltb, eqb}
-use lib.ListN.{length, getD, take}
-use lib.Ieee.{Float, nan, lt}
+use lib.ListN.{length, take}
+use lib.Ieee.{Float, lt}
 use lib.Ieee.Scale.{finite}
+use Rattle.numbers.specs.Limits.{mostUnknowns}
+use Rattle.numbers.specs.Refusals.{byOrder, byRoom, byTolerance}
 use Rattle.num.specs.Floats.{nought}
+use Rattle.num.specs.Lists.{«at», every}
 use Rattle.exact.specs.Exact.{Exact, none, times, whole, added, opposite, within}
 use Rattle.judge.specs.declared.Judged.{Judged}
 use Rattle.judge.specs.declared.Judged.the-variants.{Accepted, Rejected, Refused}
-
-abbrev pub «at» : List Float → ℕ → Float
-«at» m i = getD m i nan
 
 -- ---- a row: n coefficients, then its right side
 
@@ -39,25 +39,21 @@ named p (suc k) i = cond (p i) (named p k (i + 1)) (Rejected i)
 
 -- ---- the checks
 
-abbrev pub every : (Float → Bool) → List Float → Bool
-every p [] = true
-every p (x ∷ xs) = p x && every p xs
-
 -- a number is finite; a tolerance is also not below zero, which -0.0 is not
 abbrev pub allowed : Bool → Float → Bool
 allowed false x = finite x
 allowed true x = finite x && not (lt x nought)
 
 -- the refusal, 0 if none. 1: no row, or more than 48; 5: a system below N(N+1), a vector or tolerances below N; 11 within those lengths
-unfoldable pub refusalOf : ℕ → List Float → List Float → List Float → ℕ
-refusalOf n m x t =
-    cond (eqb n 0 || ltb 48 n) 1
-    (cond (ltb (length m) (n * (n + 1)) || (ltb (length x) n || ltb (length t) n)) 5
-    (cond (every (allowed false) (take (n * (n + 1)) m) && (every (allowed false) (take n x) && every (allowed true) (take n t))) 0 11))
+unfoldable pub judgeRefusal : ℕ → List Float → List Float → List Float → ℕ
+judgeRefusal n m x t =
+    cond (eqb n 0 || ltb mostUnknowns n) byOrder
+    (cond (ltb (length m) (n * (n + 1)) || (ltb (length x) n || ltb (length t) n)) byRoom
+    (cond (every (allowed false) (take (n * (n + 1)) m) && (every (allowed false) (take n x) && every (allowed true) (take n t))) 0 byTolerance))
 
 -- ---- the judge
 unfoldable pub judgeOf : ℕ → List Float → List Float → List Float → Judged
-judgeOf n m x t = cond (eqb (refusalOf n m x t) 0) (named (holds n m x t) n 0) (Refused (refusalOf n m x t))
+judgeOf n m x t = cond (eqb (judgeRefusal n m x t) 0) (named (holds n m x t) n 0) (Refused (judgeRefusal n m x t))
 
 -- ---- the numbers of an answer
 
@@ -75,7 +71,7 @@ numbersOf n (Refused k) = record { refusal = k; row = n }
 
 -- n rows can be read, and all their numbers are finite
 pub record Readable (n : ℕ) (m x : List Float) : Type 0 where
-  pub most : n ≤ 48
+  pub most : n ≤ mostUnknowns
   pub system : n * (n + 1) ≤ length m
   pub vector : n ≤ length x
   pub finite-system : every (allowed false) (take (n * (n + 1)) m) ≡ true

@@ -1,4 +1,3 @@
--- The judge: what it answers, the laws that say exactly when, and cases k and l.
+-- The judge: what it answers, and `laws` that say exactly when.
 pub mod Judge
-pub mod Laws
-pub mod Cases
+pub mod laws

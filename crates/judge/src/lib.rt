@@ -6,26 +6,15 @@ ghost use lib.Dec.{T};
 ghost use lib.Ieee.Scale.{finite};
 ghost use Rattle.exact.specs.Exact.{none, within};
 ghost use Rattle.exact.specs.Sums.{Sums};
-ghost use Rattle.judge.specs.Judge.{allowed as allowedFor, every, total, residual, holds, named, refusalOf, judgeOf, Readable, Given};
-
-// The greatest row count.
-const MOST: usize = 48;
-
-// Refusal: no row, or too many.
-const ROWS: u8 = 1;
-
-// Refusal: a slice is too short.
-const SHORT: u8 = 5;
-
-// Refusal: a number is not finite, or a tolerance is below zero.
-const NUMBERS: u8 = 11;
+ghost use Rattle.num.specs.Lists.{every};
+ghost use Rattle.judge.specs.Judge.{allowed as allowedFor, total, residual, holds, named, judgeRefusal, judgeOf, Readable, Given};
 
 pub enum Judged {
     // every row stays within its tolerance
     Accepted,
     // the first row that does not
     Rejected(usize),
-    // 1, 5 or 11
+    // by order, room or tolerance: 1, 5 or 11
     Refused(u8),
 }
 
@@ -42,32 +31,32 @@ pub fn judge(system: &[f64], vector: &[f64], tolerances: &[f64], rows: usize) ->
 
 // The refusal, 0 if none.
 fn refusal(m: &[f64], x: &[f64], t: &[f64], n: usize) -> u8
-    ensures { λ r. ⌜ r ≡ refusalOf n (now (m .entry)) (now (x .entry)) (now (t .entry)) ⌝ }
+    ensures { λ r. ⌜ r ≡ judgeRefusal n (now (m .entry)) (now (x .entry)) (now (t .entry)) ⌝ }
 {
     if n == 0 {
-        return ROWS;
+        return numbers::refusal::ORDER;
     }
-    if MOST < n {
-        return ROWS;
+    if numbers::limit::UNKNOWNS < n {
+        return numbers::refusal::ORDER;
     }
     let size = n * (n + 1);
     if m.len() < size {
-        return SHORT;
+        return numbers::refusal::ROOM;
     }
     if x.len() < n {
-        return SHORT;
+        return numbers::refusal::ROOM;
     }
     if t.len() < n {
-        return SHORT;
+        return numbers::refusal::ROOM;
     }
     if !all_allowed(&m[..size], false) {
-        return NUMBERS;
+        return numbers::refusal::TOLERANCE;
     }
     if !all_allowed(&x[..n], false) {
-        return NUMBERS;
+        return numbers::refusal::TOLERANCE;
     }
     if !all_allowed(&t[..n], true) {
-        return NUMBERS;
+        return numbers::refusal::TOLERANCE;
     }
     0
 }

@@ -1,4 +1,4 @@
--- What a loop that counts leaves behind, and the lists that copying, filling and putting a row make. Definitions only; Laws.antt beside it has what clients cite of them.
+-- What a loop that counts leaves behind, and the lists that copying, filling and putting a row make. Definitions only; laws/Loop.antt has what clients cite of them.
 use Prim.Native.Nat.{ℕ, zero, suc, _+_, min}
 use mathlib.Core.Bool.{Bool, cond}
 use mathlib.Core.List.{List, _∷_, _++_}

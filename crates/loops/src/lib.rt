@@ -1,11 +1,13 @@
-// Loops that every crate above stands on: copying, filling, a row put into a buffer, and 48 numbers to work in. Their meaning is in specs/Loop.antt, the laws of loops in specs/Laws.antt.
+// Loops that every crate above stands on: copying, filling, a row put into a buffer, and 48 numbers to work in. Their meaning is in specs/Loop.antt, the laws of loops in specs/laws/Loop.antt.
 // Every function here is total.
 ghost use mathlib.Core.Path.{_≡_};
 ghost use Prim.Native.Nat.{min};
 ghost use mathlib.Core.Bool.{cond};
 ghost use lib.ListN.{length, replicate};
+ghost use Rattle.numbers.specs.Limits.{mostUnknowns};
 ghost use Rattle.num.specs.Floats.{nought};
 ghost use Rattle.loops.specs.Loop.{copied, zerosLike, rowPut};
+use numbers::limit::UNKNOWNS;
 
 // Copies `src` over the front of `dst`, as far as both go.
 pub fn copy(src: &[f64], dst: &mut [f64])
@@ -36,11 +38,11 @@ pub fn clear_if(x: &mut [f64], yes: bool)
     }
 }
 
-// 48 zeros. The length is named too: a caller that works in them need not see the list.
-pub fn cells() -> [f64; 48]
-    ensures { λ r. ⌜ (length r ≡ 48) × (r ≡ replicate 48 nought) ⌝ }
+// 48 zeros, one for each unknown there can be. The length is named too: a caller that works in them need not see the list.
+pub fn cells() -> [f64; UNKNOWNS]
+    ensures { λ r. ⌜ (length r ≡ mostUnknowns) × (r ≡ replicate mostUnknowns nought) ⌝ }
 {
-    [0.0; 48]
+    [0.0; UNKNOWNS]
 }
 
 // Puts a row, a time and then a vector, at a place of a buffer; writes nothing where the row does not fit.

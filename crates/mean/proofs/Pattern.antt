@@ -12,7 +12,7 @@ use lib.Ieee.{inf, binary64, size, odd, units, toBits, ofBits, fits}
 use lib.Ieee.Bits.{ofBits-toBits}
 use lib.Ieee.Digits.{size-le}
 use lib.Ieee.Exact.{units-val}
-use Rattle.mean.specs.Bits.{bits-are}
+use Rattle.exact.specs.laws.Bits.{bits-are}
 use Rattle.mean.specs.Leading.{patternOf}
 use Rattle.mean.proofs.Places.{size-gt}
 use Rattle.mean.proofs.Sticky.{Compared, compared}

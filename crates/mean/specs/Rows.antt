@@ -3,11 +3,12 @@ use mathlib.Core.Path.{_≡_}
 use mathlib.Core.List.{List}
 use Prim.Native.Nat.{ℕ, _+_, _*_, _<_}
 use lib.ListN.{length}
+use Rattle.numbers.specs.Limits.{sumLimbs}
 use Rattle.exact.specs.Limbs.{value}
 
--- l is 66 limbs that stand for n
+-- l is a row of limbs that stand for n
 pub record Row (l : List ℕ) (n : ℕ) : Type 0 where
-  pub limbs : length l ≡ 66
+  pub limbs : length l ≡ sumLimbs
   pub is : value l ≡ n
 
 -- the limbs m are those of l over d, with r left

@@ -4,8 +4,13 @@ ghost use mathlib.Core.Bool.{_&&_};
 ghost use Prim.Native.Nat.{_/_, _%_, _^_, _<_, _≤_};
 ghost use lib.Dec.{eqb};
 ghost use lib.ListN.{length, getD, take};
+ghost use Rattle.numbers.specs.Limits.{sumLimbs};
 ghost use Rattle.exact.specs.Limbs.{value};
 ghost use Rattle.mean.specs.Leading.{Leads, Top, droppedOf, marked};
+use numbers::limit::SUM_LIMBS;
+
+// The place of a row's topmost limb.
+const LAST: usize = SUM_LIMBS - 1;
 
 // The unit of floats, 2^-1074, is 2^1074 units of a sum; two digits more are kept below it.
 const UNIT: u64 = 1072;
@@ -21,7 +26,7 @@ pub struct Digits {
 
 // The digits of l that a float keeps. even says that nothing is left below l itself.
 pub fn leading(l: &[u64], even: bool) -> Digits
-    requires { ⌜ length (now l) ≡ 66 ⌝ }
+    requires { ⌜ length (now l) ≡ sumLimbs ⌝ }
     ensures { λ r. ⌜ Leads (value (now (l .entry))) even (r .places) (r .word) ⌝ }
 {
     let places = dropped(l);
@@ -35,7 +40,7 @@ pub fn leading(l: &[u64], even: bool) -> Digits
 
 // How many digits above the lowest of a float are dropped.
 fn dropped(l: &[u64]) -> u64
-    requires { ⌜ length (now l) ≡ 66 ⌝ }
+    requires { ⌜ length (now l) ≡ sumLimbs ⌝ }
     ensures { λ r. ⌜ (r ≡ droppedOf (value (now (l .entry)))) × (r ≤ 3097) ⌝ }
 {
     let h = top(l);
@@ -45,10 +50,10 @@ fn dropped(l: &[u64]) -> u64
 
 // The place of the topmost limb that is not 0; limbs below 17 do not decide.
 fn top(l: &[u64]) -> usize
-    requires { ⌜ length (now l) ≡ 66 ⌝ }
+    requires { ⌜ length (now l) ≡ sumLimbs ⌝ }
     ensures { λ r. ⌜ Top (now (l .entry)) r ⌝ }
 {
-    let mut h: usize = 65;
+    let mut h = LAST;
     while 17 < h {
         if l[h] != 0 {
             return h;

@@ -8,9 +8,10 @@ ghost use mathlib.Core.Path.{_≡_};
 ghost use Prim.Native.Nat.{_-_, _*_, _^_, _<_, _≤_};
 ghost use lib.ListN.{length};
 ghost use lib.Ieee.{binary64, round};
+ghost use Rattle.numbers.specs.Limits.{sumLimbs};
 ghost use Rattle.exact.specs.Limbs.{value};
 ghost use Rattle.mean.specs.Mean.{meanOf};
-use exact::LIMBS;
+use numbers::limit::SUM_LIMBS;
 
 // Counts from 2^32 on are not divided by.
 const COUNTS: u64 = 4294967296;
@@ -21,10 +22,10 @@ const COUNTS: u64 = 4294967296;
 pub fn mean(plus: &[u64], minus: &[u64], count: u64) -> f64
     ensures { λ r. ⌜ r ≡ meanOf (now (plus .entry)) (now (minus .entry)) count ⌝ }
 {
-    if plus.len() != LIMBS {
+    if plus.len() != SUM_LIMBS {
         return 0.0;
     }
-    if minus.len() != LIMBS {
+    if minus.len() != SUM_LIMBS {
         return 0.0;
     }
     if count == 0 {
@@ -41,7 +42,7 @@ pub fn mean(plus: &[u64], minus: &[u64], count: u64) -> f64
 
 // What a is more than b, over the count, with a sign.
 fn over_count(a: &[u64], b: &[u64], count: u64, minus: bool) -> f64
-    requires { ⌜ (length (now a) ≡ 66) × (length (now b) ≡ 66) × (value (now b) ≤ value (now a)) × (0 < count) × (count < 2 ^ 32) ⌝ }
+    requires { ⌜ (length (now a) ≡ sumLimbs) × (length (now b) ≡ sumLimbs) × (value (now b) ≤ value (now a)) × (0 < count) × (count < 2 ^ 32) ⌝ }
     ensures { λ r. ⌜ r ≡ round binary64 minus (value (now (a .entry)) - value (now (b .entry))) (count * 2 ^ 2148) ⌝ }
 {
     let mut row = limbs::difference(a, b);

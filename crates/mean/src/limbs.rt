@@ -4,9 +4,10 @@ ghost use Prim.Native.Nat.{_+_, _-_, _*_, _^_, _<_, _≤_};
 ghost use mathlib.Core.Bool.{cond};
 ghost use lib.Dec.{ltb};
 ghost use lib.ListN.{length};
+ghost use Rattle.numbers.specs.Limits.{sumLimbs};
 ghost use Rattle.exact.specs.Limbs.{value};
 ghost use Rattle.mean.specs.Rows.{Row, Divided};
-use exact::LIMBS;
+use numbers::limit::SUM_LIMBS;
 
 // 2^32: halves of a limb.
 const HALF: u64 = 4294967296;
@@ -24,13 +25,13 @@ struct Quotient {
 }
 
 // a less b.
-pub fn difference(a: &[u64], b: &[u64]) -> [u64; LIMBS]
-    requires { ⌜ (length (now a) ≡ 66) × (length (now b) ≡ 66) × (value (now b) ≤ value (now a)) ⌝ }
+pub fn difference(a: &[u64], b: &[u64]) -> [u64; SUM_LIMBS]
+    requires { ⌜ (length (now a) ≡ sumLimbs) × (length (now b) ≡ sumLimbs) × (value (now b) ≤ value (now a)) ⌝ }
     ensures { λ r. ⌜ Row r (value (now (a .entry)) - value (now (b .entry))) ⌝ }
 {
     let mut r = exact::empty();
     let mut borrow: u64 = 0;
-    for i in 0..LIMBS {
+    for i in 0..SUM_LIMBS {
         let t = less(a[i], b[i], borrow);
         r[i] = t.word;
         borrow = t.borrow;

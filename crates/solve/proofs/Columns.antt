@@ -9,10 +9,11 @@ use lib.ListN.{length}
 use lib.Ieee.{Float, eq}
 use Rattle.num.specs.Floats.{nought}
 use Rattle.loops.specs.Loop.{turns}
-use Rattle.loops.specs.Laws.{turns-idle, three}
-use Rattle.solve.specs.Solve.{«at», rowStart, larger, indexOfNextAbs, swapped, reduced, clearOne, cleared, column}
+use Rattle.loops.specs.laws.Loop.{turns-idle, three}
+use Rattle.num.specs.Lists.{«at»}
+use Rattle.solve.specs.Solve.{rowStart, larger, indexOfNextAbs, swapped, reduced, clearOne, cleared, column}
 use Rattle.solve.specs.Inner.{Empty}
-use Rattle.solve.specs.Entries.{row-end, Swap, swap-apart, swap-same, Clear, clear-turns}
+use Rattle.solve.specs.laws.Entries.{row-end, Swap, swap-apart, swap-same, Clear, clear-turns}
 use Rattle.solve.proofs.Search.{search-idle}
 
 module _ (n k r : ℕ) (kr : k < r) (rn : r ≤ n) where

@@ -15,8 +15,9 @@ use lib.Ieee.Fits.{down-pos}
 use lib.Ieee.Positive.{through}
 use Rattle.num.specs.Floats.{nought, absoluteOf}
 use Rattle.loops.specs.Loop.{turns}
-use Rattle.loops.specs.Laws.{le-or-lt}
-use Rattle.solve.specs.Solve.{«at», larger}
+use Rattle.loops.specs.laws.Loop.{le-or-lt}
+use Rattle.num.specs.Lists.{«at»}
+use Rattle.solve.specs.Solve.{larger}
 use Rattle.solve.specs.Inner.{unsignedOf, pick, firstOf}
 use Rattle.solve.proofs.Search.{never, picked}
 

@@ -11,10 +11,11 @@ use lib.Seq.{getD-set-same, getD-set-other}
 use lib.Ieee.{Float, eq}
 use Rattle.num.specs.Floats.{nought}
 use Rattle.loops.specs.Loop.{turns}
-use Rattle.loops.specs.Laws.{turns-ext, turns-idle, three}
-use Rattle.solve.specs.Solve.{«at», rowStart, indexOfNextAbs, swapped, reduced, clearOne, cleared, column}
+use Rattle.loops.specs.laws.Loop.{turns-ext, turns-idle, three}
+use Rattle.num.specs.Lists.{«at»}
+use Rattle.solve.specs.Solve.{rowStart, indexOfNextAbs, swapped, reduced, clearOne, cleared, column}
 use Rattle.solve.specs.Inner.{Lists, clearListed}
-use Rattle.solve.specs.Entries.{row-end, Swap, swap-apart, swap-same, Clear, clear-turns}
+use Rattle.solve.specs.laws.Entries.{row-end, Swap, swap-apart, swap-same, Clear, clear-turns}
 use Rattle.solve.proofs.Search.{never}
 
 -- ---- the list

@@ -17,8 +17,9 @@ use lib.Seq.{getD-set-same, getD-set-other}
 use lib.Ieee.{Float, nan, inf, fin, up, down, neg, lt, eq, ne, ofBits}
 use Rattle.num.specs.Floats.{nought, absoluteOf}
 use Rattle.loops.specs.Loop.{turns}
-use Rattle.loops.specs.Laws.{turns-inv, turns-idle, le-or-lt}
-use Rattle.solve.specs.Solve.{«at», larger, indexOfNextAbs}
+use Rattle.loops.specs.laws.Loop.{turns-inv, turns-idle, le-or-lt}
+use Rattle.num.specs.Lists.{«at»}
+use Rattle.solve.specs.Solve.{larger, indexOfNextAbs}
 use Rattle.solve.specs.Inner.{unsignedOf, pick, Rows}
 
 pub never : {A : Type 0} → false ≡ true → A

@@ -12,8 +12,9 @@ use lib.Ieee.Bits.{is-true}
 use lib.Ieee.Fits.{and-l, and-r}
 use Rattle.num.specs.Floats.{nought}
 use Rattle.loops.specs.Loop.{turns}
-use Rattle.loops.specs.Laws.{turns-inv, turns-add, turns-idle}
-use Rattle.solve.specs.Solve.{«at», addOne}
+use Rattle.loops.specs.laws.Loop.{turns-inv, turns-add, turns-idle}
+use Rattle.num.specs.Lists.{«at»}
+use Rattle.solve.specs.Solve.{addOne}
 use Rattle.solve.specs.Inner.{AllFinite, oneMore, fourMore}
 use Rattle.solve.proofs.Zeros.{Sum, sum-starts, sum-more, sum-stays}
 

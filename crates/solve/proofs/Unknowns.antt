@@ -13,8 +13,9 @@ use lib.Ieee.{Float, nan, binary64, add, mul, div, sub, ofBits}
 use lib.Ieee.Scale.{finite}
 use Rattle.num.specs.Floats.{nought}
 use Rattle.loops.specs.Loop.{down}
-use Rattle.loops.specs.Laws.{turns-ext, down-rel, three}
-use Rattle.solve.specs.Solve.{«at», addOne, dot, unknown, lastUnknown, backOne, substituted}
+use Rattle.loops.specs.laws.Loop.{turns-ext, down-rel, three}
+use Rattle.num.specs.Lists.{«at»}
+use Rattle.solve.specs.Solve.{addOne, dot, unknown, lastUnknown, backOne, substituted}
 use Rattle.solve.specs.Inner.{AllFinite}
 
 -- two vectors of n unknowns that agree on unknown 0 and on all after i

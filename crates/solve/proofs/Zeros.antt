@@ -18,7 +18,7 @@ use lib.Ieee.Nearest.{closest, div-same, nearest-ge}
 use lib.Ieee.Scale.{finite}
 use denote.Floats.{passes}
 use Rattle.num.specs.Floats.{nought}
-use Rattle.loops.specs.Laws.{le-or-lt}
+use Rattle.loops.specs.laws.Loop.{le-or-lt}
 use Rattle.solve.proofs.Search.{never, none}
 
 -- ---- a float that fits is what its value rounds to

@@ -9,7 +9,8 @@ use lib.Ieee.{Float, binary64, neg, add, mul, lt, eq}
 use lib.Ieee.Scale.{finite}
 use Rattle.num.specs.Floats.{nought}
 use Rattle.loops.specs.Loop.{turns}
-use Rattle.solve.specs.Solve.{«at», rowStart, reduced, clearOne}
+use Rattle.num.specs.Lists.{«at»}
+use Rattle.solve.specs.Solve.{rowStart, reduced, clearOne}
 
 -- x without its sign; a zero keeps it
 unfoldable pub unsignedOf : Float → Float

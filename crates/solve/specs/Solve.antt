@@ -1,19 +1,18 @@
 -- Gaussian elimination with partial pivoting and back substitution on N rows of N + 1 floats, row after row in one list: document 01, "Solving". Definitions only.
--- Clients cite solveOf, its Solved, solution, eliminated and nextAbs; Laws.antt beside it has what holds of them.
+-- Clients cite solveOf, its Solved, solution, eliminated and nextAbs; laws/Solve.antt has what holds of them.
 -- `row` says where each row starts, so that rows may stand in any order.
 use Prim.Native.Nat.{ℕ, _+_, _-_, _*_}
 use mathlib.Core.Bool.{Bool, true, false, cond, _&&_}
 use mathlib.Core.List.{List, _++_}
 use lib.Dec.{leb, ltb, eqb}
-use lib.ListN.{length, getD, set, take, drop, replicate}
-use lib.Ieee.{Float, nan, binary64, add, sub, mul, div, lt, eq}
+use lib.ListN.{length, set, take, drop, replicate}
+use lib.Ieee.{Float, binary64, add, sub, mul, div, lt, eq}
 use lib.Ieee.Scale.{finite}
+use Rattle.numbers.specs.Limits.{mostUnknowns}
+use Rattle.numbers.specs.Refusals.{byOrder, byRoom}
 use Rattle.num.specs.Floats.{nought, absoluteOf}
+use Rattle.num.specs.Lists.{«at»}
 use Rattle.loops.specs.Loop.{turns, down}
-
--- entry i of a list of floats
-abbrev pub «at» : List Float → ℕ → Float
-«at» m i = getD m i nan
 
 -- where row r of rows of n + 1 starts
 abbrev pub rowStart : ℕ → ℕ → ℕ
@@ -107,13 +106,9 @@ substituted row n m = down (n - 2) (backOne row n m) (set (replicate n nought) (
 unfoldable pub solution : ℕ → List Float → List Float
 solution n m = substituted (rowStart n) n (eliminated n m)
 
--- the most rows that a system has
-abbrev pub most : ℕ
-most = 48
-
 -- refusal 1: "no node, or N above 48"; refusal 5: "a lent buffer too short"; 0: it runs
-abbrev pub refusalOf : ℕ → ℕ → ℕ → ℕ
-refusalOf n matrix vector = cond (leb 1 n && leb n most) (cond (leb (n * (n + 1)) matrix && leb n vector) 0 5) 1
+abbrev pub solveRefusal : ℕ → ℕ → ℕ → ℕ
+solveRefusal n matrix vector = cond (leb 1 n && leb n mostUnknowns) (cond (leb (n * (n + 1)) matrix && leb n vector) 0 byRoom) byOrder
 
 -- the answer, and both buffers afterwards
 pub record Solved : Type 0 where
@@ -127,10 +122,10 @@ solvedAs r m x = record { refusal = r; matrix = m; vector = x }
 -- a refusal changes no buffer; otherwise the first n (n + 1) floats of the matrix are the eliminated ones, the first n of the vector the solution, and nothing past them changes
 unfoldable pub solveOf : ℕ → List Float → List Float → Solved
 solveOf n m x =
-    let r = refusalOf n (length m) (length x) in
+    let r = solveRefusal n (length m) (length x) in
     let size = n * (n + 1) in
     cond (eqb r 0) (solvedAs 0 (eliminated n (take size m) ++ drop size m) (solution n (take size m) ++ drop n x)) (solvedAs r m x)
 
 -- the search by itself, in a matrix of n rows: k where k is no row of it, or it is too short or too large for one
 unfoldable pub nextAbs : ℕ → ℕ → List Float → ℕ
-nextAbs n k m = cond (leb n most && (ltb k n && leb (n * (n + 1)) (length m))) (indexOfNextAbs (rowStart n) n k m) k
+nextAbs n k m = cond (leb n mostUnknowns && (ltb k n && leb (n * (n + 1)) (length m))) (indexOfNextAbs (rowStart n) n k m) k

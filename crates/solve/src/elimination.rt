@@ -5,6 +5,7 @@ ghost use mathlib.Core.List.{List};
 ghost use Prim.Native.Nat.{_+_, _-_, _*_, _≤_, _<_};
 ghost use lib.ListN.{length};
 ghost use lib.Ieee.{Float};
+ghost use Rattle.numbers.specs.Limits.{mostUnknowns};
 ghost use Rattle.loops.specs.Loop.{turns};
 ghost use Rattle.solve.specs.Solve.{rowStart, swapped, reduced, clearOne, column as columnOf, eliminated};
 ghost use Rattle.solve.specs.Inner.{Rows, clearListed};
@@ -14,7 +15,7 @@ use super::update;
 
 // Columns 1 to n - 2, until a pivot is zero.
 pub fn eliminate(m: &mut [f64], n: usize)
-    requires { ⌜ (n ≤ 48) × (n * (n + 1) ≤ length (now m)) ⌝ }
+    requires { ⌜ (n ≤ mostUnknowns) × (n * (n + 1) ≤ length (now m)) ⌝ }
     ensures { λ _. ⌜ now (m .exit) ≡ eliminated n (now (m .entry)) ⌝ }
 {
     if n < 3 {
@@ -34,7 +35,7 @@ pub fn eliminate(m: &mut [f64], n: usize)
 // Brings the pivot of column k to row k and clears the column below it. Answers whether elimination goes on: not where the pivot is zero.
 // A zero halfway down says that the column has few entries; either way it comes to the same.
 fn column(m: &mut [f64], n: usize, k: usize) -> bool
-    requires { ⌜ (k < n) × (n ≤ 48) × (n * (n + 1) ≤ length (now m)) ⌝ }
+    requires { ⌜ (k < n) × (n ≤ mostUnknowns) × (n * (n + 1) ≤ length (now m)) ⌝ }
     ensures { λ r. ⌜ _≡_ {A = Bool × List Float} (r, now (m .exit)) (columnOf (rowStart n) n k (now (m .entry))) ⌝ }
 {
     let at = rows::row_start(n, (k + n) / 2) + k;
@@ -46,7 +47,7 @@ fn column(m: &mut [f64], n: usize, k: usize) -> bool
 
 // The same, row after row.
 fn full_column(m: &mut [f64], n: usize, k: usize) -> bool
-    requires { ⌜ (k < n) × (n ≤ 48) × (n * (n + 1) ≤ length (now m)) ⌝ }
+    requires { ⌜ (k < n) × (n ≤ mostUnknowns) × (n * (n + 1) ≤ length (now m)) ⌝ }
     ensures { λ r. ⌜ _≡_ {A = Bool × List Float} (r, now (m .exit)) (columnOf (rowStart n) n k (now (m .entry))) ⌝ }
 {
     let end = pivot::reach(m, n, k);
@@ -63,10 +64,10 @@ fn full_column(m: &mut [f64], n: usize, k: usize) -> bool
 
 // The same, with a list of the rows that are not zero in the column, so that the others are looked at once.
 fn sparse_column(m: &mut [f64], n: usize, k: usize) -> bool
-    requires { ⌜ (k < n) × (n ≤ 48) × (n * (n + 1) ≤ length (now m)) ⌝ }
+    requires { ⌜ (k < n) × (n ≤ mostUnknowns) × (n * (n + 1) ≤ length (now m)) ⌝ }
     ensures { λ r. ⌜ _≡_ {A = Bool × List Float} (r, now (m .exit)) (columnOf (rowStart n) n k (now (m .entry))) ⌝ }
 {
-    let mut list = [0; 48];
+    let mut list = [0; numbers::limit::UNKNOWNS];
     let found = pivot::search(m, &mut list, n, k);
     let p = rows::row_start(n, found.row);
     let at = p + k;
@@ -98,7 +99,7 @@ fn swap_rows(m: &mut [f64], a: usize, b: usize, len: usize)
 
 // Clears column k below row k, in the rows up to `end`.
 fn clear_below(m: &mut [f64], n: usize, k: usize, end: usize)
-    requires { ⌜ (k < end) × (end ≤ n) × (n ≤ 48) × (n * (n + 1) ≤ length (now m)) ⌝ }
+    requires { ⌜ (k < end) × (end ≤ n) × (n ≤ mostUnknowns) × (n * (n + 1) ≤ length (now m)) ⌝ }
     ensures { λ _. ⌜ now (m .exit) ≡ turns (end - (k + 1)) (clearOne (rowStart n) n k) (now (m .entry)) ⌝ }
 {
     let from = rows::row_start(n, k) + k;
@@ -112,7 +113,7 @@ fn clear_below(m: &mut [f64], n: usize, k: usize, end: usize)
 
 // Clears column k in the first `count` rows of the list.
 fn clear_listed(m: &mut [f64], list: &[u8], n: usize, k: usize, count: usize)
-    requires { ⌜ (k < n) × (n ≤ 48) × (n * (n + 1) ≤ length (now m)) × (count ≤ length (now list)) × Rows n count (now list) ⌝ }
+    requires { ⌜ (k < n) × (n ≤ mostUnknowns) × (n * (n + 1) ≤ length (now m)) × (count ≤ length (now list)) × Rows n count (now list) ⌝ }
     ensures { λ _. ⌜ now (m .exit) ≡ turns count (clearListed n k (now (list .entry))) (now (m .entry)) ⌝ }
 {
     let from = rows::row_start(n, k) + k;

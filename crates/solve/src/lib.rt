@@ -3,16 +3,14 @@
 ghost use mathlib.Core.Path.{_≡_};
 ghost use Prim.Native.Nat.{_+_, _*_, _≤_, _<_};
 ghost use lib.ListN.{length};
-ghost use Rattle.solve.specs.Solve.{solvedAs, solveOf, refusalOf, nextAbs, eliminated, solution};
+ghost use Rattle.numbers.specs.Limits.{mostUnknowns};
+ghost use Rattle.solve.specs.Solve.{solvedAs, solveOf, solveRefusal, nextAbs, eliminated, solution};
 
 mod elimination;
 mod pivot;
 mod rows;
 mod substitution;
 mod update;
-
-// The most rows that a system has.
-const MOST: usize = 48;
 
 // Solves the system of `n` rows in `matrix` and puts the unknowns into `vector`. Answers 0, or the number of a refusal: 1 for `n` 0 or above 48, 5 for a buffer that is too short.
 pub fn solve(matrix: &mut [f64], vector: &mut [f64], n: usize) -> u8
@@ -31,7 +29,7 @@ pub fn solve(matrix: &mut [f64], vector: &mut [f64], n: usize) -> u8
 pub fn index_of_next_abs(matrix: &[f64], n: usize, k: usize) -> usize
     ensures { λ r. ⌜ r ≡ nextAbs n k (now (matrix .entry)) ⌝ }
 {
-    if MOST < n {
+    if numbers::limit::UNKNOWNS < n {
         return k;
     }
     if n <= k {
@@ -45,26 +43,26 @@ pub fn index_of_next_abs(matrix: &[f64], n: usize, k: usize) -> usize
 
 // The number of the refusal, 0 where there is none.
 fn refusal(n: usize, matrix: usize, vector: usize) -> u8
-    ensures { λ r. ⌜ r ≡ refusalOf n matrix vector ⌝ }
+    ensures { λ r. ⌜ r ≡ solveRefusal n matrix vector ⌝ }
 {
     if n == 0 {
-        return 1;
+        return numbers::refusal::ORDER;
     }
-    if MOST < n {
-        return 1;
+    if numbers::limit::UNKNOWNS < n {
+        return numbers::refusal::ORDER;
     }
     if matrix < n * (n + 1) {
-        return 5;
+        return numbers::refusal::ROOM;
     }
     if vector < n {
-        return 5;
+        return numbers::refusal::ROOM;
     }
     0
 }
 
 // Eliminates and substitutes in buffers of the right lengths.
 fn run(m: &mut [f64], x: &mut [f64], n: usize)
-    requires { ⌜ (1 ≤ n) × (n ≤ 48) × (length (now m) ≡ n * (n + 1)) × (length (now x) ≡ n) ⌝ }
+    requires { ⌜ (1 ≤ n) × (n ≤ mostUnknowns) × (length (now m) ≡ n * (n + 1)) × (length (now x) ≡ n) ⌝ }
     ensures { λ _. ⌜ (now (m .exit) ≡ eliminated n (now (m .entry))) × (now (x .exit) ≡ solution n (now (m .entry))) ⌝ }
 {
     elimination::eliminate(m, n);

@@ -3,9 +3,11 @@ ghost use mathlib.Core.Path.{_≡_};
 ghost use Prim.Native.Nat.{ℕ, _+_, _-_, _*_, _≤_, _<_};
 ghost use lib.ListN.{length};
 ghost use lib.Ieee.{Float};
+ghost use Rattle.numbers.specs.Limits.{mostUnknowns};
 ghost use Rattle.num.specs.Floats.{nought};
 ghost use Rattle.loops.specs.Loop.{turns};
-ghost use Rattle.solve.specs.Solve.{«at», rowStart, larger, indexOfNextAbs};
+ghost use Rattle.num.specs.Lists.{«at»};
+ghost use Rattle.solve.specs.Solve.{rowStart, larger, indexOfNextAbs};
 ghost use Rattle.solve.specs.Inner.{Empty, Rows, Lists, unsignedOf, pick, firstOf};
 use super::rows;
 
@@ -23,7 +25,7 @@ struct Best {
 
 // The end of the rows, from row k on, that are not zero in column k; past row k at least.
 pub fn reach(m: &[f64], n: usize, k: usize) -> usize
-    requires { ⌜ (k < n) × (n ≤ 48) × (n * (n + 1) ≤ length (now m)) ⌝ }
+    requires { ⌜ (k < n) × (n ≤ mostUnknowns) × (n * (n + 1) ≤ length (now m)) ⌝ }
     ensures { λ r. ⌜ (k < r) × (r ≤ n) × Empty n k r (now (m .entry)) ⌝ }
 {
     let mut r = n;
@@ -40,7 +42,7 @@ pub fn reach(m: &[f64], n: usize, k: usize) -> usize
 
 // The row with the largest absolute entry in column k, among the rows from k up to `end`. Two searches, of every other row each, do not wait for each other's comparisons.
 pub fn next_abs(m: &[f64], n: usize, k: usize, end: usize) -> usize
-    requires { ⌜ (k < end) × (end ≤ n) × (n ≤ 48) × (n * (n + 1) ≤ length (now m)) ⌝ }
+    requires { ⌜ (k < end) × (end ≤ n) × (n ≤ mostUnknowns) × (n * (n + 1) ≤ length (now m)) ⌝ }
     ensures { λ r. ⌜ (r ≡ turns (end - k) (larger (rowStart n) k (now (m .entry))) (nought, k) .1) × (r < end) ⌝ }
 {
     let mut size = 0.0;
@@ -86,7 +88,7 @@ fn first_of(a: f64, row: usize, b: f64, other: usize) -> usize
 
 // The entry of row r in column k, without its sign.
 fn size_at(m: &[f64], n: usize, k: usize, r: usize) -> f64
-    requires { ⌜ (k < n) × (r < n) × (n ≤ 48) × (n * (n + 1) ≤ length (now m)) ⌝ }
+    requires { ⌜ (k < n) × (r < n) × (n ≤ mostUnknowns) × (n * (n + 1) ≤ length (now m)) ⌝ }
     ensures { λ a. ⌜ a ≡ unsignedOf (at (now (m .entry)) (rowStart n r + k)) ⌝ }
 {
     let at = rows::row_start(n, r) + k;
@@ -95,8 +97,8 @@ fn size_at(m: &[f64], n: usize, k: usize, r: usize) -> f64
 
 // The row with the largest absolute entry in column k, among the rows from k on. The rows after row k that are not zero there are listed in `list`, in rising order.
 pub fn search(m: &[f64], list: &mut [u8], n: usize, k: usize) -> Found
-    requires { ⌜ (k < n) × (n ≤ 48) × (n * (n + 1) ≤ length (now m)) × (48 ≤ length (now list)) ⌝ }
-    ensures { λ r. ⌜ (r .row ≡ indexOfNextAbs (rowStart n) n k (now (m .entry))) × (r .row < n) × (r .count ≤ 48) × Rows n (r .count) (now (list .exit)) × Lists n k n (r .count) (now (list .exit)) (now (m .entry)) ⌝ }
+    requires { ⌜ (k < n) × (n ≤ mostUnknowns) × (n * (n + 1) ≤ length (now m)) × (mostUnknowns ≤ length (now list)) ⌝ }
+    ensures { λ r. ⌜ (r .row ≡ indexOfNextAbs (rowStart n) n k (now (m .entry))) × (r .row < n) × (r .count ≤ mostUnknowns) × Rows n (r .count) (now (list .exit)) × Lists n k n (r .count) (now (list .exit)) (now (m .entry)) ⌝ }
 {
     let own = rows::row_start(n, k) + k;
     let mut best = larger_of(Best { size: 0.0, row: k }, m[own], k);

@@ -4,15 +4,17 @@ ghost use mathlib.Core.Bool.{true, _&&_};
 ghost use Prim.Native.Nat.{_+_, _-_, _*_, _≤_, _<_};
 ghost use lib.ListN.{length};
 ghost use lib.Ieee.{eq};
+ghost use Rattle.numbers.specs.Limits.{mostUnknowns};
 ghost use Rattle.num.specs.Floats.{nought};
 ghost use Rattle.loops.specs.Loop.{turns};
-ghost use Rattle.solve.specs.Solve.{«at», rowStart, addOne, dot as dotOf, unknown as unknownOf, lastUnknown, substituted};
+ghost use Rattle.num.specs.Lists.{«at»};
+ghost use Rattle.solve.specs.Solve.{rowStart, addOne, dot as dotOf, unknown as unknownOf, lastUnknown, substituted};
 ghost use Rattle.solve.specs.Inner.{AllFinite, fourMore};
 use super::rows;
 
 // The unknowns, the last one first; `tame` while each is finite.
 pub fn substitute(m: &[f64], x: &mut [f64], n: usize)
-    requires { ⌜ (1 ≤ n) × (n ≤ 48) × (n * (n + 1) ≤ length (now m)) × (length (now x) ≡ n) ⌝ }
+    requires { ⌜ (1 ≤ n) × (n ≤ mostUnknowns) × (n * (n + 1) ≤ length (now m)) × (length (now x) ≡ n) ⌝ }
     ensures { λ _. ⌜ now (x .exit) ≡ substituted (rowStart n) n (now (m .entry)) ⌝ }
 {
     x[0] = 0.0;
@@ -30,7 +32,7 @@ pub fn substitute(m: &[f64], x: &mut [f64], n: usize)
 
 // The last unknown, 0.0 where it is not finite.
 fn last_unknown(m: &[f64], n: usize) -> f64
-    requires { ⌜ (1 ≤ n) × (n ≤ 48) × (n * (n + 1) ≤ length (now m)) ⌝ }
+    requires { ⌜ (1 ≤ n) × (n ≤ mostUnknowns) × (n * (n + 1) ≤ length (now m)) ⌝ }
     ensures { λ r. ⌜ r ≡ lastUnknown (rowStart n) n (now (m .entry)) ⌝ }
 {
     let l = n - 1;
@@ -43,7 +45,7 @@ fn last_unknown(m: &[f64], n: usize) -> f64
 
 // Unknown i, from the unknowns after it, of which `next` is the first; `tame` only if all of them are finite.
 fn unknown(m: &[f64], x: &[f64], n: usize, i: usize, next: f64, tame: bool) -> f64
-    requires { ⌜ (i + 1 < n) × (next ≡ at (now x) (i + 1)) × (n ≤ 48) × (n * (n + 1) ≤ length (now m)) × (length (now x) ≡ n) × (tame ≡ true → AllFinite (i + 1) n (now x)) ⌝ }
+    requires { ⌜ (i + 1 < n) × (next ≡ at (now x) (i + 1)) × (n ≤ mostUnknowns) × (n * (n + 1) ≤ length (now m)) × (length (now x) ≡ n) × (tame ≡ true → AllFinite (i + 1) n (now x)) ⌝ }
     ensures { λ r. ⌜ r ≡ unknownOf (rowStart n) n (now (m .entry)) (now (x .entry)) i ⌝ }
 {
     let start = rows::row_start(n, i);
@@ -55,7 +57,7 @@ fn unknown(m: &[f64], x: &[f64], n: usize, i: usize, next: f64, tame: bool) -> f
 
 // The sum of the entries of row i after the diagonal times their unknowns, in rising order. The first unknown comes by value, since it was stored last.
 fn dot(m: &[f64], x: &[f64], n: usize, i: usize, next: f64, tame: bool) -> f64
-    requires { ⌜ (i + 1 < n) × (next ≡ at (now x) (i + 1)) × (n ≤ 48) × (n * (n + 1) ≤ length (now m)) × (length (now x) ≡ n) × (tame ≡ true → AllFinite (i + 1) n (now x)) ⌝ }
+    requires { ⌜ (i + 1 < n) × (next ≡ at (now x) (i + 1)) × (n ≤ mostUnknowns) × (n * (n + 1) ≤ length (now m)) × (length (now x) ≡ n) × (tame ≡ true → AllFinite (i + 1) n (now x)) ⌝ }
     ensures { λ r. ⌜ r ≡ dotOf (rowStart n) n (now (m .entry)) (now (x .entry)) i ⌝ }
 {
     let first = rows::row_start(n, i) + (i + 1);
@@ -68,7 +70,7 @@ fn dot(m: &[f64], x: &[f64], n: usize, i: usize, next: f64, tame: bool) -> f64
 
 // The sum where each unknown is finite: an entry that is zero adds nothing then. `first` is its first term; four zeros at a time are passed over.
 fn sparse_rest(m: &[f64], x: &[f64], n: usize, i: usize, first: f64) -> f64
-    requires { ⌜ (i + 1 < n) × (n ≤ 48) × (n * (n + 1) ≤ length (now m)) × (length (now x) ≡ n) × AllFinite (i + 1) n (now x) × (first ≡ turns 1 (addOne (rowStart n) (now m) (now x) i) nought) ⌝ }
+    requires { ⌜ (i + 1 < n) × (n ≤ mostUnknowns) × (n * (n + 1) ≤ length (now m)) × (length (now x) ≡ n) × AllFinite (i + 1) n (now x) × (first ≡ turns 1 (addOne (rowStart n) (now m) (now x) i) nought) ⌝ }
     ensures { λ r. ⌜ r ≡ dotOf (rowStart n) n (now (m .entry)) (now (x .entry)) i ⌝ }
 {
     let start = rows::row_start(n, i);
@@ -87,7 +89,7 @@ fn sparse_rest(m: &[f64], x: &[f64], n: usize, i: usize, first: f64) -> f64
 
 // The sum from term `from` on, `sum` being that of the terms before it.
 fn rest(m: &[f64], x: &[f64], n: usize, i: usize, from: usize, sum: f64) -> f64
-    requires { ⌜ (i + 1 < n) × (n ≤ 48) × (n * (n + 1) ≤ length (now m)) × (length (now x) ≡ n) × (from ≤ n - (i + 1)) × (sum ≡ turns from (addOne (rowStart n) (now m) (now x) i) nought) ⌝ }
+    requires { ⌜ (i + 1 < n) × (n ≤ mostUnknowns) × (n * (n + 1) ≤ length (now m)) × (length (now x) ≡ n) × (from ≤ n - (i + 1)) × (sum ≡ turns from (addOne (rowStart n) (now m) (now x) i) nought) ⌝ }
     ensures { λ r. ⌜ r ≡ dotOf (rowStart n) n (now (m .entry)) (now (x .entry)) i ⌝ }
 {
     let start = rows::row_start(n, i);

@@ -1,1 +1,2 @@
-pub mod Cases
+-- No definitions: `laws` has systems whose bits come from outside, computed.
+pub mod laws

@@ -1,5 +1,5 @@
 use Rattle.loops.specs.Loop.{turns}
-use Rattle.loops.specs.Laws.{more, done}
+use Rattle.loops.specs.laws.Loop.{more, done}
 use Rattle.convergence.specs.Convergence.{placeAt, checked}
 use Rattle.convergence.specs.declared.Convergence.the-variants.{Yes}
 use lib.ListN.{length}

@@ -7,7 +7,8 @@ use native.Mathlib.Omega.{arith}
 use borrow.Author.Fill.{fill-none, fill-more}
 use lib.ListN.{length, replicate, drop, drop-of-length-le}
 use denote.Ref.{now}
-use Rattle.exact.specs.Limbs.{limbsOf, zeros}
+use Rattle.exact.specs.Limbs.{limbsOf}
+use Rattle.exact.specs.laws.Limbs.{zeros}
 use Rattle.exact.proofs.clear.Statement.{statement}
 use Rattle.exact.proofs.clear.Tie as tie
 

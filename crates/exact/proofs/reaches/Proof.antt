@@ -8,7 +8,7 @@ use lib.Ieee.{ofBits, ofFields, odd}
 use lib.Ieee.Scale.{finite}
 use denote.Ref.{now}
 use Rattle.exact.specs.Limbs.{value}
-use Rattle.exact.specs.Exact.{one}
+use Rattle.num.specs.Literals.{one}
 use Rattle.exact.proofs.Room.{row-under, wide-roomy}
 use Rattle.exact.proofs.reaches.Statement.{statement}
 use Rattle.exact.proofs.reaches.Tie as tie

@@ -5,7 +5,7 @@ use lib.Ieee.{Float, nan, ne, ofBits, neg, div}
 use lib.Ieee.Compare.{differs-from-itself}
 use mathlib.Core.Bool.{true}
 use Rattle.functions.specs.Exp.{expOf}
-use Rattle.functions.specs.Values.{exp-nan, exp-above, exp-below}
+use Rattle.functions.specs.laws.Values.{exp-nan, exp-above, exp-below}
 use Rattle.functions.specs.laws.Fields.{no-nan-of}
 use Rattle.functions.proofs.exp.Statement.{statement}
 use Rattle.functions.proofs.exp.Tie as tie

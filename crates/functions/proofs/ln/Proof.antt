@@ -1,7 +1,7 @@
 -- `functions::ln` meets its contract. Assumes nothing.
 use mathlib.Core.Path.{sym, _∙_}
 use lib.Ieee.{div, ofBits, neg}
-use Rattle.functions.specs.Bounds.{ln-sum}
+use Rattle.functions.specs.laws.Bounds.{ln-sum}
 use Rattle.functions.proofs.Ends.{is-positive, ln-infinity, ln-zero, ln-none}
 use Rattle.functions.proofs.ln.Statement.{statement}
 use Rattle.functions.proofs.ln.Tie as tie

@@ -11,7 +11,8 @@ use lib.Ieee.{Float, nan, inf, fin, binary64, ofBits, unlike, lt, isNan, up, dow
 use lib.Ieee.Scale.{finite}
 use lib.Ieee.Positive.{num, den, den-pos, value→cross}
 use borrow.Author.Tests.{ltb-false}
-use Rattle.functions.specs.Fraction.{Fraction, Within, sumOf, sign}
+use Rattle.num.specs.Floats.{sign}
+use Rattle.functions.specs.Fraction.{Fraction, Within, sumOf}
 use Rattle.functions.specs.Reduction.{nearestOf, leftOf, belowOf, kOf, fTop, fBottom, fMinus}
 use Rattle.functions.specs.Words.{horner, upper, packed, Room}
 use Rattle.functions.specs.Exp.{ell, evens, odds, evenWords, oddWords, fixedExp, powerSum, overPower, expSize, expFinite, expOf, highest, lowest, ExpRange}

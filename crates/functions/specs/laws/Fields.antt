@@ -12,7 +12,7 @@ use lib.Ieee.Compare.{nan-differs}
 use lib.Ieee.Exact.{HasValue}
 use lib.Ieee.Scale.{finite}
 use lib.Ieee.Positive.{num, den, den-pos, positive, value-pos, own-value}
-use Rattle.functions.specs.Fraction.{sign}
+use Rattle.num.specs.Floats.{sign}
 use Rattle.functions.specs.Words.{sizeOf}
 use Rattle.functions.specs.laws.Bits64.{ofBits-is, normal, subnormal}
 

@@ -13,7 +13,8 @@ use lib.Ieee.Positive.{num, den, den-pos}
 use borrow.Author.Tests.{le-leb}
 use Rattle.functions.specs.declared.Sine.{Sine}
 use Rattle.functions.specs.declared.Sine.the-variants.{Value, Refused}
-use Rattle.functions.specs.Fraction.{Fraction, Within, sumOf, kept, alternating, negated, sign, valueOf}
+use Rattle.num.specs.Floats.{sign}
+use Rattle.functions.specs.Fraction.{Fraction, Within, sumOf, kept, alternating, negated, valueOf}
 use Rattle.functions.specs.Reduction.{nearestOf, leftOf, belowOf, kOf, fTop, fBottom, fMinus}
 use Rattle.functions.specs.Words.{falling, upper, packed, Room}
 use Rattle.functions.specs.Sin.{quarter, sineWords, cosineWords, sineWord, cosineWord, waveWord, waveSide, smallSize, sinSmall, sinLarge, sinNear, sinOf, pick, numberOf, SinRange, sineTerms, cosineTerms, sineSum, cosineSum, quadrant, wave}

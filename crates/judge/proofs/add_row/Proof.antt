@@ -8,7 +8,8 @@ use lib.Ieee.{nan}
 use denote.Ref.{now}
 use denote.Floats.{passes}
 use Rattle.exact.specs.Exact.{Exact}
-use Rattle.exact.specs.Sums.{Sums, row-length, one-more}
+use Rattle.exact.specs.Sums.{Sums}
+use Rattle.exact.specs.laws.Sums.{row-length, one-more}
 use Rattle.judge.specs.Judge.{allowed, total}
 use Rattle.judge.proofs.Every.{front-at}
 use Rattle.judge.proofs.Places.{more, nothing}

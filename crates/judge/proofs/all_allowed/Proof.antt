@@ -7,7 +7,8 @@ use lib.ListN.{length, drop}
 use lib.Ieee.{nan}
 use denote.Ref.{now}
 use borrow.Author.Tests.{not-true, not-false}
-use Rattle.judge.specs.Judge.{every, allowed}
+use Rattle.num.specs.Lists.{every}
+use Rattle.judge.specs.Judge.{allowed}
 use Rattle.judge.proofs.Every.{every-next, every-not, every-end}
 use Rattle.judge.proofs.all_allowed.Statement.{statement}
 use Rattle.judge.proofs.all_allowed.Tie as tie

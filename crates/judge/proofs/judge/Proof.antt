@@ -4,7 +4,7 @@ use mathlib.Core.Path.{sym, _∙_}
 use denote.Ref.{now}
 use borrow.Author.Tests.{eq-eqb, ne-eqb}
 use Rattle.judge.specs.Judge.{judgeOf}
-use Rattle.judge.specs.Laws.{no-refusal-only}
+use Rattle.judge.specs.laws.Judge.{no-refusal-only}
 use Rattle.judge.proofs.judge.Statement.{statement}
 use Rattle.judge.proofs.judge.Tie as tie
 

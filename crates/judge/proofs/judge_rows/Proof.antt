@@ -9,7 +9,8 @@ use lib.Ieee.Scale.{finite}
 use denote.Ref.{now}
 use denote.Floats.{passes}
 use borrow.Author.Tests.{not-true, not-false}
-use Rattle.judge.specs.Judge.{«at», allowed, holds, named}
+use Rattle.num.specs.Lists.{«at»}
+use Rattle.judge.specs.Judge.{allowed, holds, named}
 use Rattle.judge.proofs.Every.{front-at}
 use Rattle.judge.proofs.Places.{holding, failing, at-end, at-start}
 use Rattle.judge.proofs.judge_rows.Statement.{statement}

@@ -8,36 +8,37 @@ use lib.ListN.{take}
 use lib.Seq.{length-take-le}
 use denote.Ref.{now}
 use borrow.Author.Tests.{eq-eqb, ne-eqb, lt-ltb, le-ltb, not-true, not-false}
-use Rattle.judge.specs.Judge.{every, allowed, refusalOf}
+use Rattle.num.specs.Lists.{every}
+use Rattle.judge.specs.Judge.{allowed, judgeRefusal}
 use Rattle.judge.proofs.Places.{size, numbers-decide}
 use Rattle.judge.proofs.refusal.Statement.{statement}
 use Rattle.judge.proofs.refusal.Tie as tie
 
 -- the lengths are enough, and the numbers decide
-decided : (c : tie.Else5) → refusalOf (c .before .before .before .before .before .before .before .before .args .n) (now (c .before .before .before .before .before .before .before .before .args .m)) (now (c .before .before .before .before .before .before .before .before .args .x)) (now (c .before .before .before .before .before .before .before .before .args .t)) ≡ cond (every (allowed false) (take (c .before .before .before .before .before .before .before .before .args .n * (c .before .before .before .before .before .before .before .before .args .n + 1)) (now (c .before .before .before .before .before .before .before .before .args .m))) && (every (allowed false) (take (c .before .before .before .before .before .before .before .before .args .n) (now (c .before .before .before .before .before .before .before .before .args .x))) && every (allowed true) (take (c .before .before .before .before .before .before .before .before .args .n) (now (c .before .before .before .before .before .before .before .before .args .t))))) 0 11
+decided : (c : tie.Else5) → judgeRefusal (c .before .before .before .before .before .before .before .before .args .n) (now (c .before .before .before .before .before .before .before .before .args .m)) (now (c .before .before .before .before .before .before .before .before .args .x)) (now (c .before .before .before .before .before .before .before .before .args .t)) ≡ cond (every (allowed false) (take (c .before .before .before .before .before .before .before .before .args .n * (c .before .before .before .before .before .before .before .before .args .n + 1)) (now (c .before .before .before .before .before .before .before .before .args .m))) && (every (allowed false) (take (c .before .before .before .before .before .before .before .before .args .n) (now (c .before .before .before .before .before .before .before .before .args .x))) && every (allowed true) (take (c .before .before .before .before .before .before .before .before .args .n) (now (c .before .before .before .before .before .before .before .before .args .t))))) 0 11
 decided c = numbers-decide (c .before .before .before .before .before .before .before .before .args .n) (now (c .before .before .before .before .before .before .before .before .args .m)) (now (c .before .before .before .before .before .before .before .before .args .x)) (now (c .before .before .before .before .before .before .before .before .args .t)) (c .before .before .before .before .if1 .left) (c .before .before .before .if2 .left) (c .before .before .if3 .left) (c .before .if4 .left) (c .if5 .left)
 
 returns : tie.Need-returns
-unfolding refusalOf
+unfolding judgeRefusal
 returns c = rw (eq-eqb _ _ (c .if1 .taken))
 
 returns-2 : tie.Need-returns-2
-unfolding refusalOf
+unfolding judgeRefusal
 returns-2 c = rw (ne-eqb _ _ (c .before .if1 .left), lt-ltb _ _ (c .if2 .taken))
 
 mul-size : tie.Need-mul-size
 mul-size c = omega (arith, size (c .before .before .before .before .before .args .n) (omega arith))
 
 returns-3 : tie.Need-returns-3
-unfolding refusalOf
+unfolding judgeRefusal
 returns-3 c = rw (ne-eqb _ _ (c .before .before .if1 .left), le-ltb _ _ (c .before .if2 .left), lt-ltb _ _ (c .if3 .taken))
 
 returns-4 : tie.Need-returns-4
-unfolding refusalOf
+unfolding judgeRefusal
 returns-4 c = rw (ne-eqb _ _ (c .before .before .before .if1 .left), le-ltb _ _ (c .before .before .if2 .left), le-ltb _ _ (c .before .if3 .left), lt-ltb _ _ (c .if4 .taken))
 
 returns-5 : tie.Need-returns-5
-unfolding refusalOf
+unfolding judgeRefusal
 returns-5 c = rw (ne-eqb _ _ (c .before .before .before .before .if1 .left), le-ltb _ _ (c .before .before .before .if2 .left), le-ltb _ _ (c .before .before .if3 .left), le-ltb _ _ (c .before .if4 .left), lt-ltb _ _ (c .if5 .taken))
 
 slice-aggregate-all-allowed : tie.Need-slice-aggregate-all-allowed

@@ -8,8 +8,9 @@ use lib.Ieee.{nan}
 use denote.Ref.{now}
 use denote.Floats.{passes}
 use Rattle.exact.specs.Exact.{whole, added, opposite}
-use Rattle.exact.specs.Sums.{no-terms, exchanged, one-float, is-within}
-use Rattle.judge.specs.Judge.{«at», allowed, total, residual}
+use Rattle.exact.specs.laws.Sums.{no-terms, exchanged, one-float, is-within}
+use Rattle.num.specs.Lists.{«at»}
+use Rattle.judge.specs.Judge.{allowed, total, residual}
 use Rattle.judge.proofs.Every.{front-at}
 use Rattle.judge.proofs.Places.{Lies, lies}
 use Rattle.judge.proofs.row_holds.Statement.{statement}

@@ -5,7 +5,7 @@ use borrow.Author.Needs.{needs}
 use lib.ListN.{length}
 use lib.Ieee.{nan}
 use Rattle.loops.specs.Loop.{front, copied}
-use Rattle.loops.specs.Laws.{front-more}
+use Rattle.loops.specs.laws.Loop.{front-more}
 use Rattle.loops.proofs.copy.Statement.{statement}
 use Rattle.loops.proofs.copy.Tie as tie
 

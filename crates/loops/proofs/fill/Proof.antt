@@ -4,7 +4,7 @@ use mathlib.Core.List.{_++_}
 use native.Mathlib.Omega.{arith}
 use borrow.Author.Needs.{needs}
 use lib.ListN.{length, replicate, drop}
-use Rattle.loops.specs.Laws.{fill-more, fill-done}
+use Rattle.loops.specs.laws.Loop.{fill-more, fill-done}
 use Rattle.loops.proofs.fill.Statement.{statement}
 use Rattle.loops.proofs.fill.Tie as tie
 

@@ -8,7 +8,7 @@ use lib.ListN.{length, take, drop, set, length-take, length-drop, length-set}
 use lib.Seq.{drop-drop, take-suc-set, drop-set-lt}
 use lib.Ieee.{Float}
 use Rattle.loops.specs.Loop.{copied, rowAt, rowPut}
-use Rattle.loops.specs.Laws.{copied-same, row-fits, row-too-long, row-put-length}
+use Rattle.loops.specs.laws.Loop.{copied-same, row-fits, row-too-long, row-put-length}
 use Rattle.loops.proofs.put_row.Statement.{statement}
 use Rattle.loops.proofs.put_row.Tie as tie
 

@@ -5,7 +5,8 @@ use Prim.Native.Nat.{_^_}
 use native.Mathlib.Nat.{le-of-lt}
 use native.Mathlib.Omega.{arith}
 use borrow.Author.Tests.{eq-eqb, ne-eqb, lt-ltb, le-ltb, leb-true, leb-false}
-use Rattle.mean.specs.Mean.{meanOf, mean-plus, mean-minus}
+use Rattle.mean.specs.Mean.{meanOf}
+use Rattle.mean.specs.laws.Mean.{mean-plus, mean-minus}
 use Rattle.mean.proofs.mean.Statement.{statement}
 use Rattle.mean.proofs.mean.Tie as tie
 

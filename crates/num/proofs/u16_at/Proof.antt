@@ -1,6 +1,6 @@
 use Rattle.num.specs.Le.{le16}
 use native.Mathlib.Omega.{arith}
-use Rattle.num.specs.Past.{past16, last16}
+use Rattle.num.specs.laws.Past.{past16, last16}
 use mathlib.Core.Path.{sym}
 use borrow.Author.Needs.{needs}
 use Rattle.num.proofs.u16_at.Statement.{statement}

@@ -1,6 +1,6 @@
 use Rattle.num.specs.Le.{le32}
 use native.Mathlib.Omega.{arith}
-use Rattle.num.specs.Past.{past32}
+use Rattle.num.specs.laws.Past.{past32}
 use mathlib.Core.Path.{sym}
 use borrow.Author.Needs.{needs}
 use Rattle.num.proofs.u32_at.Statement.{statement}

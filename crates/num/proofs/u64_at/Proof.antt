@@ -1,6 +1,6 @@
 use Rattle.num.specs.Le.{le64}
 use native.Mathlib.Omega.{arith}
-use Rattle.num.specs.Past.{past64}
+use Rattle.num.specs.laws.Past.{past64}
 use mathlib.Core.Path.{sym}
 use borrow.Author.Needs.{needs}
 use Rattle.num.proofs.u64_at.Statement.{statement}

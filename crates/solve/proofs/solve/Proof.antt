@@ -5,7 +5,7 @@ use borrow.Author.Tests.{ne-eqb}
 use lib.ListN.{length}
 use lib.Seq.{length-take-le}
 use Rattle.solve.specs.Solve.{Solved, solveOf}
-use Rattle.solve.specs.Laws.{fit, solves, solve-lengths}
+use Rattle.solve.specs.laws.Solve.{fit, solves, solve-lengths}
 use Rattle.solve.proofs.Sizes.{small}
 use borrow.Author.Needs.{needs}
 use Rattle.solve.proofs.solve.Statement.{statement}

@@ -9,7 +9,8 @@ use native.Mathlib.Omega.{arith}
 use lib.ListN.{length, getD, set, take, drop}
 use lib.Seq.{take-all}
 use denote.Ref.{now}
-use Rattle.exact.specs.Limbs.{value, limbsOf, length-limbs}
+use Rattle.exact.specs.Limbs.{value, limbsOf}
+use Rattle.exact.specs.laws.Limbs.{length-limbs}
 use Rattle.exact.proofs.limbs.copied.Statement.{statement}
 use Rattle.exact.proofs.limbs.copied.Tie as tie
 

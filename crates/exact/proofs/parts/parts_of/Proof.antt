@@ -8,7 +8,7 @@ use denote.Floats.{passes}
 use lib.Dec.{T}
 use lib.Ieee.{Float, nan, inf, fin, binary64, toBits, fits, isNan}
 use lib.Ieee.Scale.{finite}
-use Rattle.exact.specs.Units.{said-sign, said-units, subnormal, normal}
+use Rattle.exact.specs.laws.Units.{said-sign, said-units, subnormal, normal}
 use Rattle.exact.proofs.parts.parts_of.Statement.{statement}
 use Rattle.exact.proofs.parts.parts_of.Tie as tie
 

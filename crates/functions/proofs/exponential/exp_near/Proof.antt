@@ -9,7 +9,7 @@ use lib.Ieee.{Float, binary64, ofBits, unlike}
 use lib.Ieee.Positive.{num, den, den-pos}
 use mir.Syntax.{w64}
 use mir.Val.{Fits}
-use Rattle.functions.specs.Fraction.{sign}
+use Rattle.num.specs.Floats.{sign}
 use Rattle.functions.specs.Reduction.{nearestOf, leftOf, belowOf, kOf, fTop}
 use Rattle.functions.specs.Words.{packed, Room}
 use Rattle.functions.specs.Exp.{ell, fixedExp, expSize, expOf, ExpRange}

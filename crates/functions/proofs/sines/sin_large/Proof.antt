@@ -8,7 +8,7 @@ use lib.Dec.{eqb, lit≤, lit<}
 use lib.Ieee.{Float, binary64, ofBits, neg, unlike}
 use lib.Ieee.Positive.{num, den, den-pos}
 use borrow.Author.Needs.{needs}
-use Rattle.functions.specs.Fraction.{sign}
+use Rattle.num.specs.Floats.{sign}
 use Rattle.functions.specs.Reduction.{nearestOf, leftOf, belowOf, kOf, fTop}
 use Rattle.functions.specs.Words.{packed}
 use Rattle.functions.specs.Sin.{quarter, waveWord, waveSide, sinLarge, SinRange}

@@ -9,7 +9,7 @@ use lib.Ieee.{Float, binary64, fits, toBits, neg, size}
 use lib.Ieee.Digits.{size-le}
 use lib.Ieee.Positive.{num, den, den-pos}
 use borrow.Author.Tests.{le-leb, lt-leb}
-use Rattle.functions.specs.Fraction.{sign}
+use Rattle.num.specs.Floats.{sign}
 use Rattle.functions.specs.Words.{sizeOf, unitsOf}
 use Rattle.functions.specs.Sin.{smallSize, sinSmall}
 use Rattle.functions.specs.laws.Fields.{number, size-lt, field-most, quarter-below}

@@ -4,7 +4,7 @@ use native.Mathlib.Omega.{arith}
 use mathlib.Core.Path.{ap, _∙_}
 use Prim.Native.Nat.{_-_, _≤_}
 use lib.ListN.{length}
-use Rattle.exact.specs.Limbs.{length-limbs}
+use Rattle.exact.specs.laws.Limbs.{length-limbs}
 use Rattle.mean.proofs.Turns.{Lessened, lessened-start, lessened-more, lessened-end}
 use Rattle.mean.proofs.limbs.difference.Statement.{statement}
 use Rattle.mean.proofs.limbs.difference.Tie as tie

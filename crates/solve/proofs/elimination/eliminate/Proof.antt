@@ -7,7 +7,7 @@ use native.Mathlib.Omega.{arith}
 use lib.ListN.{length}
 use lib.Ieee.{Float}
 use Rattle.loops.specs.Loop.{turns}
-use Rattle.loops.specs.Laws.{more, done}
+use Rattle.loops.specs.laws.Loop.{more, done}
 use Rattle.solve.specs.Solve.{rowStart, column, columnNext, eliminated}
 use borrow.Author.Needs.{needs}
 use Rattle.solve.proofs.elimination.eliminate.Statement.{statement}

@@ -3,9 +3,9 @@ use Prim.Native.Nat.{_-_, _≤_}
 use native.Mathlib.Omega.{arith}
 use lib.ListN.{length, length-set}
 use Rattle.loops.specs.Loop.{turns}
-use Rattle.loops.specs.Laws.{more, done}
+use Rattle.loops.specs.laws.Loop.{more, done}
 use Rattle.solve.specs.Solve.{swapOne, swapped}
-use Rattle.solve.specs.Entries.{swap-same}
+use Rattle.solve.specs.laws.Entries.{swap-same}
 use borrow.Author.Needs.{needs}
 use Rattle.solve.proofs.elimination.swap_rows.Statement.{statement}
 use Rattle.solve.proofs.elimination.swap_rows.Tie as tie

@@ -7,7 +7,8 @@ use lib.ListN.{length, length-set}
 use lib.Ieee.{Float, eq}
 use Rattle.num.specs.Floats.{nought}
 use Rattle.loops.specs.Loop.{turns}
-use Rattle.solve.specs.Solve.{«at», rowStart, larger, indexOfNextAbs}
+use Rattle.num.specs.Lists.{«at»}
+use Rattle.solve.specs.Solve.{rowStart, larger, indexOfNextAbs}
 use Rattle.solve.specs.Inner.{Rows, Lists}
 use Rattle.solve.proofs.Search.{not-ne, best-first, best-next, best-same, best-row, rows-longer}
 use Rattle.solve.proofs.Listed.{list-starts, list-same, list-longer}

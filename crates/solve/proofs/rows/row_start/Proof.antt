@@ -2,7 +2,7 @@ use mathlib.Core.Path.{refl}
 use Prim.Native.Nat.{_+_}
 use native.Mathlib.Omega.{arith}
 use borrow.Author.Needs.{needs}
-use Rattle.solve.specs.Entries.{row-end}
+use Rattle.solve.specs.laws.Entries.{row-end}
 use Rattle.solve.proofs.Sizes.{small}
 use Rattle.solve.proofs.rows.row_start.Statement.{statement}
 use Rattle.solve.proofs.rows.row_start.Tie as tie

@@ -5,7 +5,8 @@ use native.Mathlib.Nat.{add-zero}
 use lib.Ieee.{Float, binary64, add, mul}
 use Rattle.num.specs.Floats.{nought}
 use Rattle.loops.specs.Loop.{turns}
-use Rattle.solve.specs.Solve.{«at», rowStart, addOne}
+use Rattle.num.specs.Lists.{«at»}
+use Rattle.solve.specs.Solve.{rowStart, addOne}
 use borrow.Author.Needs.{needs}
 use Rattle.solve.proofs.substitution.dot.Statement.{statement}
 use Rattle.solve.proofs.substitution.dot.Tie as tie

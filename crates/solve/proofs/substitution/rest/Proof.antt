@@ -2,7 +2,7 @@ use mathlib.Core.Path.{_≡_}
 use Prim.Native.Nat.{_-_, _≤_}
 use Rattle.num.specs.Floats.{nought}
 use Rattle.loops.specs.Loop.{turns}
-use Rattle.loops.specs.Laws.{more, done}
+use Rattle.loops.specs.laws.Loop.{more, done}
 use Rattle.solve.specs.Solve.{rowStart, addOne, dot}
 use borrow.Author.Needs.{needs}
 use Rattle.solve.proofs.substitution.rest.Statement.{statement}

@@ -10,8 +10,9 @@ use lib.Ieee.Bits.{is-true}
 use lib.Ieee.Fits.{and-l, and-r}
 use Rattle.num.specs.Floats.{nought}
 use Rattle.loops.specs.Loop.{down}
-use Rattle.loops.specs.Laws.{less}
-use Rattle.solve.specs.Solve.{«at», rowStart, backOne}
+use Rattle.loops.specs.laws.Loop.{less}
+use Rattle.num.specs.Lists.{«at»}
+use Rattle.solve.specs.Solve.{rowStart, backOne}
 use Rattle.solve.specs.Inner.{AllFinite}
 use Rattle.solve.proofs.Unknowns.{any-vector, last-finite, more-finite}
 use borrow.Author.Needs.{needs}

@@ -1,6 +1,6 @@
 use Prim.Native.Nat.{_-_}
 use native.Mathlib.Omega.{arith}
-use Rattle.solve.specs.Entries.{less-join}
+use Rattle.solve.specs.laws.Entries.{less-join}
 use borrow.Author.Needs.{needs}
 use Rattle.solve.proofs.update.less_below_four.Statement.{statement}
 use Rattle.solve.proofs.update.less_below_four.Tie as tie

@@ -1,7 +1,7 @@
 use mathlib.Core.Path.{refl}
 use Prim.Native.Nat.{_-_}
 use native.Mathlib.Omega.{arith}
-use Rattle.solve.specs.Entries.{less-join}
+use Rattle.solve.specs.laws.Entries.{less-join}
 use borrow.Author.Needs.{needs}
 use Rattle.solve.proofs.update.less_few.Statement.{statement}
 use Rattle.solve.proofs.update.less_few.Tie as tie

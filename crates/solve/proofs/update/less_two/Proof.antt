@@ -1,6 +1,6 @@
 use mathlib.Core.Path.{refl}
 use Prim.Native.Nat.{_-_}
-use Rattle.solve.specs.Entries.{less-join}
+use Rattle.solve.specs.laws.Entries.{less-join}
 use borrow.Author.Needs.{needs}
 use Rattle.solve.proofs.update.less_two.Statement.{statement}
 use Rattle.solve.proofs.update.less_two.Tie as tie

@@ -1,27 +1,25 @@
 -- Every float's decimal number reads back to the very float. Clients cite reads-back.
 use mathlib.Core.Path.{_≡_, refl, sym, ap, _∙_, subst}
-use mathlib.Core.Logic.{_⊎_, inl, inr, ⊎-elim}
+use mathlib.Core.Logic.{inl, inr}
 use mathlib.Core.Bool.{Bool, true, false, not, _&&_, cond, and-eq-true-iff as both}
 use Prim.Native.Nat.{ℕ, zero, suc, _+_, _-_, _*_, _/_, _%_, _^_, _≤_, _<_}
-use native.Mathlib.Nat.{le-trans, le-of-lt, lt-of-le-of-lt, lt-of-lt-of-le, mul-comm, mul-assoc, mul-right-comm, mul-pos, mul-le-mul, mul-le-mul-left, mul-le-mul-right, mul-lt-mul-of-pos-right, mod-lt, div-mul-le-self, div-add-mod', lt-div-mul-add, le-div-iff-mul-le, pow-suc}
+use native.Mathlib.Nat.{le-trans, le-of-lt, lt-of-lt-of-le, mul-assoc, mul-right-comm, mul-le-mul-left, mul-le-mul-right, mul-lt-mul-of-pos-right, mod-lt, div-mul-le-self, div-add-mod', le-div-iff-mul-le, pow-suc}
 use native.Mathlib.Omega.{arith}
 use borrow.Author.Tests.{eqb-true, eqb-false, eq-eqb, ne-eqb, leb-true, le-leb, ltb-true, ltb-false}
-use lib.IntN.{ℤ, pos}
+use lib.IntN.{pos}
 use lib.Dec.{T, eqb, leb, ltb, lit<}
 use lib.Pow.{pow-add, pow-pos, pow-mono}
-use lib.Ieee.{Float, nan, inf, fin, binary64, round, toBits, fits, isNan, size, units, odd}
+use lib.Ieee.{Float, nan, inf, fin, binary64, round, toBits, fits, isNan}
 use lib.Ieee.Exact.{HasValue}
 use lib.Ieee.Scale.{finite}
-use Rattle.exact.specs.Units.{Says, normal, subnormal}
-use Rattle.decimal.specs.declared.Decimal.{Decimal}
-use Rattle.decimal.specs.declared.scale.Cut.{Cut}
+use Rattle.exact.specs.laws.Units.{normal, subnormal}
 use Rattle.decimal.specs.declared.shortest.Span.{Span}
 use Rattle.decimal.specs.declared.shortest.Number.{Number}
 use Rattle.decimal.specs.Scale.{placeOf, top, bottom, cutOf}
-use Rattle.decimal.specs.Units.{Quarter, quarter-facts, bottom-pos, power-pos}
-use Rattle.decimal.specs.Shortest.{lowEdge, leastOf, mostOf, spanOf, insideOf, firstIn, upFirst, candidateOf, unlessNone, numberOf}
+use Rattle.decimal.specs.laws.Units.{quarter-facts, bottom-pos, power-pos}
+use Rattle.decimal.specs.Shortest.{lowEdge, leastOf, mostOf, spanOf, insideOf, firstIn, upFirst, candidateOf, numberOf}
 use Rattle.decimal.specs.Decimal.{signOf, fieldOf, lowOf, stepsOf, ofPattern, decimalOf, readBack}
-use Rattle.decimal.specs.Nearest.{Between, Steps, rounds-to, zero-is}
+use Rattle.decimal.specs.laws.Nearest.{Between, Steps, rounds-to, zero-is}
 
 -- ---- a number from the least to the most is between the edges
 

@@ -6,7 +6,8 @@ use lib.Dec.{T, leb, eqb·suc-zero, lit≤}
 use lib.Ieee.{Float, nan, inf, fin, binary64, fits}
 use lib.Ieee.Scale.{finite}
 use lib.Ieee.Positive.{num, den, den-pos, positive}
-use Rattle.functions.specs.Fraction.{Within, sign, valueOf}
+use Rattle.num.specs.Floats.{sign}
+use Rattle.functions.specs.Fraction.{Within, valueOf}
 use Rattle.functions.specs.Reduction.{kOf, fTop, fBottom, fMinus}
 use Rattle.functions.specs.Exp.{ell, expOf, ExpRange, overPower, powerSum}
 use Rattle.functions.specs.Ln.{lnPositive, lnOf, LnClose, placeOf}

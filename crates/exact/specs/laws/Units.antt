@@ -1,7 +1,7 @@
 -- The units of a finite float that fits binary64, by the fields of its bit pattern: they are all of it, and few. Clients cite units-exact, units-few.
 use mathlib.Core.Path.{_≡_, refl, sym, ap, _∙_, subst}
 use mathlib.Core.Bool.{Bool, true, false, cond}
-use Prim.Native.Nat.{ℕ, zero, suc, _+_, _-_, _*_, _/_, _%_, _^_, _≤_, _<_}
+use Prim.Native.Nat.{ℕ, zero, suc, _+_, _*_, _/_, _%_, _^_, _≤_, _<_}
 use native.Mathlib.Nat.{lt-of-not-le, le-of-lt, mod-lt, mul-div-cancel, mul-le-mul}
 use native.Mathlib.Omega.{arith}
 use lib.Dec.{T, leb, eqb, eqb→eq, not-T, lit<}
@@ -11,12 +11,9 @@ use lib.Ieee.Bits.{ofBits-toBits, cond-no}
 use lib.Ieee.Exact.{HasValue, odd-sign}
 use lib.Ieee.Scale.{finite}
 use lib.Ieee.Positive.{num, den, den-pos}
-use Rattle.exact.specs.Exact.{sign, units}
-
--- digits and the place of the lowest, as a float has them
-pub record Small (digits place : ℕ) : Type 0 where
-  pub few : digits < 2 ^ 53
-  pub low : place ≤ 2045
+use Rattle.num.specs.Floats.{sign}
+use Rattle.exact.specs.Exact.{units}
+use Rattle.exact.specs.Rows.{Small}
 
 pub small-size : (d p : ℕ) → Small d p → d * 2 ^ p ≤ 2 ^ 2098
 small-size d p s = mul-le-mul {n₂ = 2 ^ 53} {m₂ = 2 ^ 2045} (le-of-lt (s .few)) (pow-mono (s .low))

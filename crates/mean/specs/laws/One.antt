@@ -13,12 +13,16 @@ use lib.Ieee.{Float, binary64, unlike, round, toBits, ofBits, ofFields, odd}
 use lib.Ieee.Exact.{HasValue, round-exact}
 use lib.Ieee.Fits.{round-fits}
 use lib.Ieee.Scale.{round-same}
+use Rattle.numbers.specs.Limits.{sumLimbs}
 use Rattle.exact.specs.Limbs.{value}
-use Rattle.exact.specs.Exact.{units, sign, one, whole}
-use Rattle.exact.specs.Units.{Says, said-sign, said-units, subnormal, normal}
-use Rattle.exact.specs.Sums.{Factor}
-use Rattle.mean.specs.Mean.{meanOf, mean-plus, mean-minus}
-use Rattle.mean.specs.Bits.{same-float}
+use Rattle.num.specs.Literals.{one}
+use Rattle.num.specs.Floats.{sign}
+use Rattle.exact.specs.Exact.{units, whole}
+use Rattle.exact.specs.laws.Units.{Says, said-sign, said-units, subnormal, normal}
+use Rattle.exact.specs.laws.Sums.{Factor}
+use Rattle.mean.specs.Mean.{meanOf}
+use Rattle.mean.specs.laws.Mean.{mean-plus, mean-minus}
+use Rattle.exact.specs.laws.Bits.{same-float}
 
 one-sign : sign one ≡ false
 unfolding ofBits ofFields odd trailingZeros
@@ -57,7 +61,7 @@ over-one x n f e =
     ∙ own-sign x f
 
 -- rows that keep one float and nothing else, over 1: the float, and 0.0 for -0.0
-pub mean-of-one : (x : Float) (p m : List ℕ) → length p ≡ 66 → length m ≡ 66 → Factor x → value p ≡ whole x .plus → value m ≡ whole x .minus → (sign x ≡ true → 0 < units x) → meanOf p m 1 ≡ x
+pub mean-of-one : (x : Float) (p m : List ℕ) → length p ≡ sumLimbs → length m ≡ sumLimbs → Factor x → value p ≡ whole x .plus → value m ≡ whole x .minus → (sign x ≡ true → 0 < units x) → meanOf p m 1 ≡ x
 mean-of-one x p m P M f a b some = go (sign x) refl
   where
     none : (n k : ℕ) → n ≡ 0 → k - n ≡ k

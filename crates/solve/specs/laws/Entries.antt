@@ -11,8 +11,9 @@ use lib.Seq.{getD-set-same, getD-set-other, set-set, set-getD}
 use lib.Ieee.{Float, nan, binary64, sub, mul, div, eq}
 use Rattle.num.specs.Floats.{nought}
 use Rattle.loops.specs.Loop.{turns}
-use Rattle.loops.specs.Laws.{three, turns-ext, turns-add}
-use Rattle.solve.specs.Solve.{«at», rowStart, lessOne, lessScaled, swapOne, swapped, reduced, clearOne}
+use Rattle.loops.specs.laws.Loop.{three, turns-ext, turns-add}
+use Rattle.num.specs.Lists.{«at»}
+use Rattle.solve.specs.Solve.{rowStart, lessOne, lessScaled, swapOne, swapped, reduced, clearOne}
 
 -- ---- rows
 

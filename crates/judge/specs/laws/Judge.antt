@@ -10,7 +10,8 @@ use borrow.Author.Tests.{eqb-true, eqb-false, ltb-false, leb-true, le-leb, eq-eq
 use lib.Ieee.{Float}
 use lib.ListN.{length, take}
 use Rattle.exact.specs.Exact.{Exact, size, within}
-use Rattle.judge.specs.Judge.{«at», residual, holds, named, every, allowed, refusalOf, judgeOf, numbersOf, Given}
+use Rattle.num.specs.Lists.{«at», every}
+use Rattle.judge.specs.Judge.{residual, holds, named, allowed, judgeRefusal, judgeOf, numbersOf, Given}
 use Rattle.judge.specs.declared.Judged.{Judged}
 use Rattle.judge.specs.declared.Judged.the-variants.{Accepted, Rejected, Refused}
 
@@ -152,8 +153,8 @@ answered k n r h = go (eqb k 0) refl
 
 module _ (n : ℕ) (m x t : List Float) where
   -- nothing else is refused
-  pub no-refusal : Given n m x t → refusalOf n m x t ≡ 0
-  unfolding refusalOf
+  pub no-refusal : Given n m x t → judgeRefusal n m x t ≡ 0
+  unfolding judgeRefusal
   no-refusal g =
       let r = g .rows in
       rw (ne-eqb n 0 (not-zero n (g .some)), le-ltb 48 n (r .most), le-ltb (length m) (n * (n + 1)) (r .system), le-ltb (length x) n (r .vector), le-ltb (length t) n (g .tolerances), r .finite-system, r .finite-vector, g .no-less)
@@ -161,8 +162,8 @@ module _ (n : ℕ) (m x t : List Float) where
       not-zero : (a : ℕ) → 0 < a → a ≡ 0 → ⊥
       not-zero a h e = omega arith
 
-  pub no-refusal-only : refusalOf n m x t ≡ 0 → Given n m x t
-  unfolding refusalOf
+  pub no-refusal-only : judgeRefusal n m x t ≡ 0 → Given n m x t
+  unfolding judgeRefusal
   no-refusal-only e =
       let p = not-given (eqb n 0 || ltb 48 n) 1 _ (omega arith) e in
       let q = not-given (ltb (length m) (n * (n + 1)) || (ltb (length x) n || ltb (length t) n)) 5 _ (omega arith) (p .1) in
@@ -182,14 +183,14 @@ module _ (n : ℕ) (m x t : List Float) where
       above-zero : (a : ℕ) → (a ≡ 0 → ⊥) → 0 < a
       above-zero a h = omega arith
 
-  pub refusal-is : numbersOf n (judgeOf n m x t) .refusal ≡ refusalOf n m x t
+  pub refusal-is : numbersOf n (judgeOf n m x t) .refusal ≡ judgeRefusal n m x t
   unfolding judgeOf
-  refusal-is = answered (refusalOf n m x t) n (named (holds n m x t) n 0) (no-row-refused (holds n m x t) n n 0)
+  refusal-is = answered (judgeRefusal n m x t) n (named (holds n m x t) n 0) (no-row-refused (holds n m x t) n n 0)
 
   -- where nothing is refused, the answer is that of the rows
   answer : Given n m x t → judgeOf n m x t ≡ named (holds n m x t) n 0
   unfolding judgeOf
-  answer g = let e = eq-eqb (refusalOf n m x t) 0 (no-refusal g) in rw e
+  answer g = let e = eq-eqb (judgeRefusal n m x t) 0 (no-refusal g) in rw e
 
   given : (a : Judged) → judgeOf n m x t ≡ a → numbersOf n a .refusal ≡ 0 → Given n m x t
   given a e h = no-refusal-only (sym refusal-is ∙ ap (λ (r : Judged). numbersOf n r .refusal) e ∙ h)

@@ -15,7 +15,7 @@ use Rattle.functions.specs.Reduction.{nearestOf, leftOf, belowOf}
 use Rattle.functions.specs.Words.{horner, rounded, packed}
 use Rattle.functions.specs.Exp.{fixedExp, expSize, expFinite, expOf, highest, lowest}
 use Rattle.functions.specs.Ln.{lnWord, zWord, lnSize, lnAnswer, lnPositive, lnOf}
-use Rattle.functions.specs.Sin.{sinSmall, sinNear, sinOf, pick, refusalOf}
+use Rattle.functions.specs.Sin.{sinSmall, sinNear, sinOf, pick, sineRefusal}
 
 abbrev nought : Bool → Float
 nought s = fin s 0 (pos 0)
@@ -100,6 +100,6 @@ sin-refused (inf s) f h = absurd f
 sin-refused (fin s m e) f h = ap (λ (b : Bool). pick b (Value (sinNear (fin s m e))) Refused) (lt-leb (m * up e) (2 ^ 20 * down e) h)
 
 -- 2 ^ 20 runs, and the next float is refused
-pub sin-edge : (refusalOf (sinOf (fin false 1 (pos 20))) ≡ 0) × (refusalOf (sinOf (fin false 4503599627370497 (negsuc 31))) ≡ 12)
+pub sin-edge : (sineRefusal (sinOf (fin false 1 (pos 20))) ≡ 0) × (sineRefusal (sinOf (fin false 4503599627370497 (negsuc 31))) ≡ 12)
 unfolding sinOf
 sin-edge = (refl, refl)

@@ -9,10 +9,12 @@ use lib.Dec.{leb, eqb}
 use lib.ListN.{length, set, take, drop, replicate, length-set, length-replicate, length-append, length-take, length-drop, drop-of-length-le}
 use lib.Seq.{take-all}
 use lib.Ieee.{Float, binary64, div, eq}
+use Rattle.numbers.specs.Limits.{mostUnknowns}
 use Rattle.num.specs.Floats.{nought}
 use Rattle.loops.specs.Loop.{turns}
-use Rattle.loops.specs.Laws.{turns-inv, down-inv}
-use Rattle.solve.specs.Solve.{«at», rowStart, lessOne, lessScaled, swapOne, swapped, reduced, clearOne, cleared, indexOfNextAbs, column, columnNext, eliminated, unknown, lastUnknown, backOne, substituted, solution, refusalOf, Solved, solvedAs, solveOf, most}
+use Rattle.loops.specs.laws.Loop.{turns-inv, down-inv}
+use Rattle.num.specs.Lists.{«at»}
+use Rattle.solve.specs.Solve.{rowStart, lessOne, lessScaled, swapOne, swapped, reduced, clearOne, cleared, indexOfNextAbs, column, columnNext, eliminated, unknown, lastUnknown, backOne, substituted, solution, solveRefusal, Solved, solvedAs, solveOf}
 
 -- ---- lengths
 
@@ -67,9 +69,9 @@ solution-length n m =
 
 -- ---- it runs
 
-module _ (n : ℕ) (m x : List Float) (low : 1 ≤ n) (high : n ≤ most) where
+module _ (n : ℕ) (m x : List Float) (low : 1 ≤ n) (high : n ≤ mostUnknowns) where
   -- with one row at least and at most 48, and buffers that are long enough
-  pub runs : n * (n + 1) ≤ length m → n ≤ length x → refusalOf n (length m) (length x) ≡ 0
+  pub runs : n * (n + 1) ≤ length m → n ≤ length x → solveRefusal n (length m) (length x) ≡ 0
   runs p q = rw (le-leb 1 n low, le-leb n 48 high, le-leb (n * (n + 1)) (length m) p, le-leb n (length x) q)
 
   -- the solution then stands in front
@@ -89,16 +91,16 @@ module _ (n : ℕ) (m x : List Float) (low : 1 ≤ n) (high : n ≤ most) where
 
 pub record Fit (n matrix vector : ℕ) : Type 0 where
   pub low : 1 ≤ n
-  pub high : n ≤ most
+  pub high : n ≤ mostUnknowns
   pub rows : n * (n + 1) ≤ matrix
   pub unknowns : n ≤ vector
 
-pub fit : (n matrix vector : ℕ) → refusalOf n matrix vector ≡ 0 → Fit n matrix vector
-fit n matrix vector e = go (leb 1 n) refl (leb n most) refl (leb (n * (n + 1)) matrix) refl (leb n vector) refl e
+pub fit : (n matrix vector : ℕ) → solveRefusal n matrix vector ≡ 0 → Fit n matrix vector
+fit n matrix vector e = go (leb 1 n) refl (leb n mostUnknowns) refl (leb (n * (n + 1)) matrix) refl (leb n vector) refl e
   where
-    go : (a : Bool) → leb 1 n ≡ a → (b : Bool) → leb n most ≡ b → (c : Bool) → leb (n * (n + 1)) matrix ≡ c → (d : Bool) → leb n vector ≡ d → _≡_ {A = ℕ} (cond (a && b) (cond (c && d) 0 5) 1) 0 → Fit n matrix vector
+    go : (a : Bool) → leb 1 n ≡ a → (b : Bool) → leb n mostUnknowns ≡ b → (c : Bool) → leb (n * (n + 1)) matrix ≡ c → (d : Bool) → leb n vector ≡ d → _≡_ {A = ℕ} (cond (a && b) (cond (c && d) 0 5) 1) 0 → Fit n matrix vector
     go true p true q true r true s z =
-        record { low = leb-true 1 n p; high = leb-true n most q; rows = leb-true (n * (n + 1)) matrix r; unknowns = leb-true n vector s }
+        record { low = leb-true 1 n p; high = leb-true n mostUnknowns q; rows = leb-true (n * (n + 1)) matrix r; unknowns = leb-true n vector s }
     go true p true q true r false s z = absurd (omega arith)
     go true p true q false r d s z = absurd (omega arith)
     go true p false q c r d s z = absurd (omega arith)
@@ -113,7 +115,7 @@ solve-lengths n m x = go (eqb r 0) refl
     size = n * (n + 1)
 
     r : ℕ
-    r = refusalOf n (length m) (length x)
+    r = solveRefusal n (length m) (length x)
 
     ran : Solved
     ran = solvedAs 0 (eliminated n (take size m) ++ drop size m) (solution n (take size m) ++ drop n x)

@@ -3,49 +3,17 @@ use mathlib.Core.Path.{_≡_, refl}
 use mathlib.Core.List.{List, [], _∷_, _++_, map}
 use Prim.Native.Nat.{ℕ}
 use lib.ListN.{replicate}
-use lib.Ieee.{Float, binary64, ofBits, odd, ofFields, lt}
+use lib.Ieee.{Float, ofBits, odd, ofFields, lt}
 use lib.Count.{trailingZeros}
+use Rattle.num.specs.Floats.{nought}
+use Rattle.num.specs.Literals.{half, one, two, four, minusOne, minusTwo, minusZero, tiny, huge, infinity}
 use Rattle.exact.specs.Exact.{units}
-use Rattle.judge.specs.Judge.{total, residual, named, refusalOf, judgeOf}
+use Rattle.judge.specs.Judge.{total, residual, named, judgeRefusal, judgeOf}
 use Rattle.judge.specs.declared.Judged.{Judged}
 use Rattle.judge.specs.declared.Judged.the-variants.{Accepted, Rejected, Refused}
 
-abbrev f : ℕ → Float
-f b = ofBits binary64 b
-
 abbrev o : Float
-o = f 0
-
-abbrev one : Float
-one = f 0x3ff0_0000_0000_0000
-
-abbrev minusOne : Float
-minusOne = f 0xbff0_0000_0000_0000
-
-abbrev two : Float
-two = f 0x4000_0000_0000_0000
-
-abbrev minusTwo : Float
-minusTwo = f 0xc000_0000_0000_0000
-
-abbrev four : Float
-four = f 0x4010_0000_0000_0000
-
-abbrev half : Float
-half = f 0x3fe0_0000_0000_0000
-
--- 2 ^ -1000 and 2 ^ 1000
-abbrev tiny : Float
-tiny = f 0x0170_0000_0000_0000
-
-abbrev huge : Float
-huge = f 0x7e70_0000_0000_0000
-
-abbrev infinity : Float
-infinity = f 0x7ff0_0000_0000_0000
-
-abbrev minusZero : Float
-minusZero = f 0x8000_0000_0000_0000
+o = nought
 
 -- the system of case b, row after row
 abbrev b : List Float
@@ -96,5 +64,5 @@ refusals =
     ∷ []
 
 pub all-right : map judgedOf (k ++ (l ++ refusals)) ≡ map answerOf (k ++ (l ++ refusals))
-unfolding units total residual named refusalOf judgeOf ofBits ofFields odd trailingZeros lt
+unfolding units total residual named judgeRefusal judgeOf ofBits ofFields odd trailingZeros lt
 all-right = refl

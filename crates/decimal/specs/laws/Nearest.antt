@@ -1,21 +1,21 @@
 -- Which whole number a fraction rounds to, and which float: by the edges half a step above and below. Clients cite nothing here. Assumes nothing.
 use mathlib.Core.Path.{_≡_, refl, sym, ap, _∙_, subst}
 use mathlib.Core.Logic.{_⊎_, inl, inr, ⊎-elim}
-use mathlib.Core.Bool.{Bool, true, false, not, cond}
+use mathlib.Core.Bool.{Bool, not}
 use Prim.Native.Nat.{ℕ, zero, suc, _+_, _-_, _*_, _/_, _%_, _^_, _≤_, _<_, compare, Ordering, Ordering·lt, Ordering·eq, Ordering·gt}
-use native.Mathlib.Nat.{le-antisymm, le-trans, le-of-lt, lt-of-le-of-lt, lt-of-lt-of-le, lt-of-not-le, not-le-of-lt, mul-comm, mul-assoc, mul-right-comm, mul-pos, mul-le-mul-left, mul-le-mul-right, mul-lt-mul-of-pos-right, mod-lt, div-add-mod', div-lt-iff-lt-mul, le-div-iff-mul-le, mul-div-cancel, pow-suc}
+use native.Mathlib.Nat.{le-antisymm, lt-of-lt-of-le, lt-of-not-le, not-le-of-lt, mul-comm, mul-assoc, mul-right-comm, mul-pos, mul-le-mul-right, mod-lt, div-add-mod', div-lt-iff-lt-mul, le-div-iff-mul-le, pow-suc}
 use native.Mathlib.Omega.{arith}
 use lib.IntN.{pos}
 use lib.Dec.{T, isLe, isEq, eqb, leb→le, nleb→lt, eqb→eq, eqb-refl, lit<}
 use lib.Arith.{lt-of-le-ne}
-use lib.Pow.{pow-add, pow-pos, pow-mono, shl-lt}
-use lib.Ieee.{Float, nan, inf, fin, binary64, low, prec, up, down, size, nearest, units, round, toBits, ofBits, fits}
+use lib.Pow.{pow-add, pow-pos, pow-mono}
+use lib.Ieee.{Float, fin, binary64, low, up, size, nearest, units, round, fits}
 use lib.Ieee.Digits.{size-lt, size-le}
-use lib.Ieee.Bits.{ofBits-toBits}
-use lib.Ieee.Fits.{round-is, round-fits, down-pos}
+use lib.Ieee.Fits.{round-is, round-fits}
 use lib.Ieee.Exact.{HasValue, units-val}
 use lib.Ieee.Nearest.{closest}
-use Rattle.loops.specs.Laws.{le-or-lt, three}
+use Rattle.loops.specs.laws.Loop.{le-or-lt, three}
+use Rattle.exact.specs.laws.Bits.{same-float}
 
 -- ---- the nearest whole number
 
@@ -237,22 +237,7 @@ module _ (m n e j L : ℕ) (E : 0 < e) (t : Steps m j L) (s : Between m n (e * 2
       high : (U : ℕ) → L * U ≤ 4 * n → 2 ^ 54 * U ≤ L * U → 2 ^ 52 * U ≤ n
       high U p q = omega arith
 
--- ---- a float is given by its sign and its size
-
--- the bits of n units with the sign s
-patternOf : Bool → ℕ → ℕ
-patternOf s n = cond s (2 ^ 63) 0 + (size n - 53) * 2 ^ 52 + n / 2 ^ (size n - 53)
-
-bits-are : (x : Float) (s : Bool) (a : ℕ) → HasValue x s a (2 ^ 1074) → toBits binary64 x ≡ patternOf s a
-unfolding toBits patternOf
-bits-are nan s a h = absurd h
-bits-are (inf t) s a h = absurd h
-bits-are (fin t m e) s a h =
-    (λ i. let n = m * up e * 2 ^ 1074 / down e in cond (h .0 i) (2 ^ 63) 0 + (size n - 53) * 2 ^ 52 + n / 2 ^ (size n - 53))
-    ∙ ap (λ (n : ℕ). cond s (2 ^ 63) 0 + (size n - 53) * 2 ^ 52 + n / 2 ^ (size n - 53)) (ap (λ (z : ℕ). z / down e) (h .1) ∙ mul-div-cancel a (down-pos e))
-
-unique : (x y : Float) (s : Bool) (a : ℕ) → T (fits binary64 x) → T (fits binary64 y) → HasValue x s a (2 ^ 1074) → HasValue y s a (2 ^ 1074) → x ≡ y
-unique x y s a F G h k = sym (ofBits-toBits binary64 x F) ∙ ap (ofBits binary64) (bits-are x s a h ∙ sym (bits-are y s a k)) ∙ ofBits-toBits binary64 y G
+-- ---- the nearest float
 
 -- a fraction between the edges of x rounds to x
 pub rounds-to : (x : Float) (s : Bool) (m j L a e : ℕ) → T (fits binary64 x) → HasValue x s (m * 2 ^ j) (2 ^ 1074) → m * 2 ^ j < 2 ^ 2098 → 0 < e → Steps m j L → Between m (a * 2 ^ 1074) (e * 2 ^ j) L → round binary64 s a e ≡ x
@@ -262,10 +247,10 @@ rounds-to x s m j L a e F v few E t b =
     let q = closest n (e * 2 ^ k) in
     let g : q * 2 ^ k ≡ m * 2 ^ j = grid-is m n e j L E t b in
     let w : HasValue (units binary64 s q k) s (q * 2 ^ k) (2 ^ 1074) = units-val binary64 s q k (subst (λ (z : ℕ). z < 2 ^ 2098) (sym g) few) in
-    unique (round binary64 s a e) x s (m * 2 ^ j) (round-fits binary64 s a e) F
+    same-float (round binary64 s a e) x s (m * 2 ^ j) (round-fits binary64 s a e) F
     (subst (λ (z : Float). HasValue z s (m * 2 ^ j) (2 ^ 1074)) (sym (round-is binary64 s a e)) (subst (λ (z : ℕ). HasValue (units binary64 s q k) s z (2 ^ 1074)) g w)) v
 
 -- a zero reads as itself
 pub zero-is : (x : Float) (s : Bool) → T (fits binary64 x) → HasValue x s 0 (2 ^ 1074) → fin s 0 (pos 0) ≡ x
 unfolding fits
-zero-is x s F v = unique (fin s 0 (pos 0)) x s 0 tt F (refl, refl) v
+zero-is x s F v = same-float (fin s 0 (pos 0)) x s 0 tt F (refl, refl) v

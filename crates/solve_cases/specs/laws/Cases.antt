@@ -5,6 +5,7 @@ use mathlib.Core.List.{List, [], _∷_, map}
 use lib.ListN.{replicate}
 use lib.Ieee.{Float, binary64, ofBits, toBits, add, sub, mul, div, lt, eq}
 use Rattle.num.specs.Floats.{nought, absoluteOf}
+use Rattle.num.specs.Literals.{one}
 use Rattle.solve.specs.Solve.{Solved, solveOf, indexOfNextAbs, swapped, lessScaled, reduced, cleared, column, eliminated, dot, unknown, lastUnknown, substituted, solution}
 
 pub record Case : Type 0 where
@@ -16,7 +17,7 @@ pub record Case : Type 0 where
 -- the system's bits in, both buffers' bits out, the vector being full of ones before
 answer : Case → ℕ × List ℕ × List ℕ
 answer c =
-    let s = solveOf (c .rows) (map (ofBits binary64) (c .given)) (replicate (c .rows) (ofBits binary64 0x3ff0000000000000)) in
+    let s = solveOf (c .rows) (map (ofBits binary64) (c .given)) (replicate (c .rows) one) in
     (s .refusal, map (toBits binary64) (s .matrix), map (toBits binary64) (s .vector))
 
 expected : Case → ℕ × List ℕ × List ℕ

@@ -1,0 +1,2 @@
+-- What holds of the definitions: computed cases.
+pub mod Cases

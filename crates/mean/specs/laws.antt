@@ -1,0 +1,3 @@
+-- What holds of the mean.
+pub mod Mean
+pub mod One

@@ -1,0 +1,2 @@
+-- Option sets by name.
+pub mod Bench

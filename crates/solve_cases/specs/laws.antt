@@ -1,0 +1,2 @@
+-- Computed cases of solving.
+pub mod Cases
