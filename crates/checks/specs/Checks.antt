@@ -1,19 +1,16 @@
--- Refusals 1 to 10 in their order, and what holds where nothing is refused. Clients cite refusalOf, checkedOf, order, cells, records, limitsOf, Fine, fine and cond-none.
-use Prim.Native.Nat.{ℕ, zero, suc, _+_, _*_, _-_, _/_, _≤_, _<_}
-use mathlib.Core.Path.{_≡_, refl, ap}
-use mathlib.Core.Bool.{Bool, true, false, cond, _||_, _&&_, or-true}
-use mathlib.Mathlib.Data.Bool.Basic.{or-eq-false-eq-eq-false-and-eq-false as neither}
+-- Refusals 1 to 10 in their order. Clients cite sizesRefusal, checkedOf, order, cells, records and limitsOf.
+use Prim.Native.Nat.{ℕ, _+_, _*_, _/_}
+use mathlib.Core.Bool.{Bool, cond, _||_, _&&_}
 use mathlib.Core.List.{List}
 use lib.Dec.{eqb, ltb}
-use borrow.Author.Tests.{eqb-true, eqb-false, ltb-true, ltb-false, lt-ltb}
-use native.Mathlib.Omega.{arith}
+use Rattle.numbers.specs.Limits.{mostUnknowns, mostPasses, mostBudget}
+use Rattle.numbers.specs.Refusals.{byOrder, bySheet, byPoints, byCounts, byRoom}
 use Rattle.options.specs.declared.Options.{Options}
 use Rattle.sheet.specs.declared.Limits.{Limits}
 use Rattle.sheet.specs.declared.Checked.{Checked}
-use Rattle.sheet.specs.declared.Checked.the-variants.{Clean, Faulty}
+use Rattle.sheet.specs.declared.Checked.the-variants.{Faulty}
 use Rattle.sheet.specs.Record.{recordBytes}
 use Rattle.sheet.specs.Check.{pointBytes, badSheet, badPoints, checkOf}
-use Rattle.sheet.specs.Clean.{whole-sheet, whole-points}
 use Rattle.checks.specs.declared.Sizes.{Sizes}
 
 -- N: nodes (ground included) plus sources
@@ -29,14 +26,14 @@ records z = z .sheet / recordBytes
 
 -- 1: no node, or N above 48
 unfoldable pub badOrder : ℕ → ℕ → Bool
-badOrder nodes sources = eqb nodes 0 || ltb 48 (nodes + sources)
+badOrder nodes sources = eqb nodes 0 || ltb mostUnknowns (nodes + sources)
 
 -- 4: ITL1, ITL3 or ITL4 above 10,000; budget 0 or above 1,000,000
 abbrev pub highLimit : Options → Bool
-highLimit o = ltb 10000 (o .itl1) || ltb 10000 (o .itl3) || ltb 10000 (o .itl4)
+highLimit o = ltb mostPasses (o .itl1) || ltb mostPasses (o .itl3) || ltb mostPasses (o .itl4)
 
 unfoldable pub badCounts : Options → Bool
-badCounts o = highLimit o || eqb (o .budget) 0 || ltb 1000000 (o .budget)
+badCounts o = highLimit o || eqb (o .budget) 0 || ltb mostBudget (o .budget)
 
 -- 5: a lent buffer too short: three matrices of N(N+1), vector N, one float per record for diode memory, rows N+1 (transient)
 abbrev pub shortMatrix : Sizes → Bool
@@ -49,13 +46,13 @@ unfoldable pub badRoom : Sizes → Bool
 badRoom z = shortMatrix z || shortVector z || (z .transient && ltb (z .rows) (order z + 1))
 
 -- the first of 1 to 5 that holds, in this order; 0 where none does
-unfoldable pub refusalOf : Options → Sizes → ℕ
-refusalOf o z =
-    cond (badOrder (z .nodes) (z .sources)) 1
-    (cond (badSheet (z .sheet)) 2
-    (cond (badPoints (z .points)) 3
-    (cond (badCounts o) 4
-    (cond (badRoom z) 5
+unfoldable pub sizesRefusal : Options → Sizes → ℕ
+sizesRefusal o z =
+    cond (badOrder (z .nodes) (z .sources)) byOrder
+    (cond (badSheet (z .sheet)) bySheet
+    (cond (badPoints (z .points)) byPoints
+    (cond (badCounts o) byCounts
+    (cond (badRoom z) byRoom
     0))))
 
 -- what 8, 9 and 10 compare with
@@ -64,94 +61,4 @@ limitsOf z = record { nodes = z .nodes; sources = z .sources; points = z .points
 
 -- 1 to 5 with place 0, then the sheet's 6 to 10 with the record's
 unfoldable pub checkedOf : Options → Sizes → List ℕ → Checked
-checkedOf o z sheet = cond (eqb (refusalOf o z) 0) (checkOf sheet (limitsOf z)) (Faulty (refusalOf o z) 0)
-
--- ---- laws
-
-and-none : (a b : Bool) → (a && b) ≡ false → a ≡ true → b ≡ false
-and-none true b e h = e
-and-none false b e h = absurd (let z : _≡_ {A = ℕ} 0 1 = cc in omega arith)
-
-module _ (nodes sources : ℕ) where
-  pub order-small : badOrder nodes sources ≡ false → nodes + sources ≤ 48
-  unfolding badOrder
-  order-small e = ltb-false _ _ (neither (eqb nodes 0) (ltb 48 (nodes + sources)) .0 e .1)
-
-  -- the test in parts that do not wrap
-  pub order-above : 48 < nodes → badOrder nodes sources ≡ true
-  unfolding badOrder
-  order-above h =
-      let e : ltb 48 (nodes + sources) ≡ true = lt-ltb 48 (nodes + sources) (omega arith) in
-      rw e (or-true (eqb nodes 0))
-
-  pub order-below : nodes ≤ 48 → badOrder nodes sources ≡ (eqb nodes 0 || ltb (48 - nodes) sources)
-  unfolding badOrder
-  order-below h = ap (λ (b : Bool). eqb nodes 0 || b) (same (ltb 48 (nodes + sources)) (ltb (48 - nodes) sources) refl refl)
-    where
-      same : (a b : Bool) → ltb 48 (nodes + sources) ≡ a → ltb (48 - nodes) sources ≡ b → a ≡ b
-      same true true p q = refl
-      same false false p q = refl
-      same true false p q = absurd (omega (arith, ltb-true 48 (nodes + sources) p, ltb-false (48 - nodes) sources q))
-      same false true p q = absurd (omega (arith, ltb-false 48 (nodes + sources) p, ltb-true (48 - nodes) sources q))
-
--- what holds where nothing of 1 to 5 is refused
-pub record Fine (o : Options) (z : Sizes) : Type 0 where
-  pub some : 0 < z .nodes
-  pub small : order z ≤ 48
-  pub whole : recordBytes * records z ≡ z .sheet
-  pub few : records z ≤ 256
-  pub spent : o .budget ≤ 1000000
-  pub «base-room» : cells z ≤ z .base
-  pub «system-room» : cells z ≤ z .system
-  pub «elimination-room» : cells z ≤ z .elimination
-  pub «vector-room» : order z ≤ z .vector
-  pub «memory-room» : records z ≤ z .memory
-  pub «rows-room» : z .transient ≡ true → order z + 1 ≤ z .rows
-
--- a test of a chain that answers 0 does not hold
-pub cond-none : (a : Bool) (k r : ℕ) → cond a (suc k) r ≡ 0 → (a ≡ false) × (r ≡ 0)
-cond-none true k r e = absurd (let z : suc k ≡ 0 = e in omega arith)
-cond-none false k r e = (refl, e)
-
-pub fine : (o : Options) (z : Sizes) → refusalOf o z ≡ 0 → Fine o z
-unfolding refusalOf badOrder badCounts badRoom
-fine o z e =
-    let r1 = cond-none (badOrder (z .nodes) (z .sources)) 0 _ e in
-    let r2 = cond-none (badSheet (z .sheet)) 1 _ (r1 .1) in
-    let r3 = cond-none (badPoints (z .points)) 2 _ (r2 .1) in
-    let r4 = cond-none (badCounts o) 3 _ (r3 .1) in
-    let r5 = cond-none (badRoom z) 4 _ (r4 .1) in
-    let o1 = neither (eqb (z .nodes) 0) (ltb 48 (order z)) .0 (r1 .0) in
-    let o2 = whole-sheet (z .sheet) (r2 .0) in
-    let o4 = neither (highLimit o || eqb (o .budget) 0) (ltb 1000000 (o .budget)) .0 (r4 .0) in
-    let t = neither (shortMatrix z || shortVector z) (z .transient && ltb (z .rows) (order z + 1)) .0 (r5 .0) in
-    let mv = neither (shortMatrix z) (shortVector z) .0 (t .0) in
-    let m = neither (ltb (z .base) (cells z) || ltb (z .system) (cells z)) (ltb (z .elimination) (cells z)) .0 (mv .0) in
-    let bs = neither (ltb (z .base) (cells z)) (ltb (z .system) (cells z)) .0 (m .0) in
-    let v = neither (ltb (z .vector) (order z)) (ltb (z .memory) (records z)) .0 (mv .1) in
-    record {
-      some = omega (arith, eqb-false (z .nodes) 0 (o1 .0));
-      small = ltb-false _ _ (o1 .1);
-      whole = o2 .0;
-      few = o2 .1;
-      spent = ltb-false _ _ (o4 .1);
-      «base-room» = ltb-false _ _ (bs .0);
-      «system-room» = ltb-false _ _ (bs .1);
-      «elimination-room» = ltb-false _ _ (m .1);
-      «vector-room» = ltb-false _ _ (v .0);
-      «memory-room» = ltb-false _ _ (v .1);
-      «rows-room» = λ h. ltb-false _ _ (and-none (z .transient) _ (t .1) h);
-    }
-
--- a clean answer means that nothing is refused: 1 to 5 leave what `Fine` says, and the sheet is clean
-pub clean-fine : (o : Options) (z : Sizes) (sheet : List ℕ) → checkedOf o z sheet ≡ Clean → (refusalOf o z ≡ 0) × (checkOf sheet (limitsOf z) ≡ Clean)
-unfolding checkedOf
-clean-fine o z sheet e = by (eqb (refusalOf o z) 0) refl e
-  where
-    faulty : Checked → ℕ
-    faulty Clean = 1
-    faulty (Faulty k i) = 0
-
-    by : (b : Bool) → eqb (refusalOf o z) 0 ≡ b → cond b (checkOf sheet (limitsOf z)) (Faulty (refusalOf o z) 0) ≡ Clean → (refusalOf o z ≡ 0) × (checkOf sheet (limitsOf z) ≡ Clean)
-    by true t h = (eqb-true _ 0 t, h)
-    by false t h = absurd (let z : _≡_ {A = ℕ} 0 1 = ap faulty h in omega arith)
+checkedOf o z sheet = cond (eqb (sizesRefusal o z) 0) (checkOf sheet (limitsOf z)) (Faulty (sizesRefusal o z) 0)

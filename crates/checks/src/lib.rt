@@ -2,17 +2,12 @@
 // Every public function is total.
 ghost use mathlib.Core.Path.{_≡_};
 ghost use Prim.Native.Nat.{_+_, _≤_};
-ghost use Rattle.checks.specs.Checks.{badOrder, badCounts, badRoom, refusalOf, checkedOf};
+ghost use Rattle.numbers.specs.Limits.{mostUnknowns};
+ghost use Rattle.checks.specs.Checks.{badOrder, badCounts, badRoom, sizesRefusal, checkedOf};
+use numbers::limit;
 use options::Options;
 use sheet::Checked;
 use sheet::Limits;
-
-// The greatest N, the greatest iteration limit, and the greatest budget.
-const ORDER: usize = 48;
-
-const PASSES: u64 = 10000;
-
-const BUDGET: u64 = 1000000;
 
 // The counts of a run and the lengths of what is lent to it. A DC run has no rows: `transient` tells whether `rows` counts.
 pub struct Sizes {
@@ -47,22 +42,22 @@ pub fn check(o: Options, z: Sizes, sheet: &[u8]) -> Checked
 
 // The refusal, 1 to 5, or 0 where there is none.
 pub fn refusal(o: Options, z: Sizes) -> u8
-    ensures { λ r. ⌜ r ≡ refusalOf o z ⌝ }
+    ensures { λ r. ⌜ r ≡ sizesRefusal o z ⌝ }
 {
     if bad_order(z.nodes, z.sources) {
-        return 1;
+        return numbers::refusal::ORDER;
     }
     if sheet::bad_sheet(z.sheet) {
-        return 2;
+        return numbers::refusal::SHEET;
     }
     if sheet::bad_points(z.points) {
-        return 3;
+        return numbers::refusal::POINTS;
     }
     if bad_counts(o) {
-        return 4;
+        return numbers::refusal::COUNTS;
     }
     if bad_room(z) {
-        return 5;
+        return numbers::refusal::ROOM;
     }
     0
 }
@@ -71,23 +66,23 @@ pub fn refusal(o: Options, z: Sizes) -> u8
 pub fn bad_order(nodes: usize, sources: usize) -> bool
     ensures { λ r. ⌜ r ≡ badOrder nodes sources ⌝ }
 {
-    if ORDER < nodes {
+    if limit::UNKNOWNS < nodes {
         return true;
     }
-    (nodes == 0) | (ORDER - nodes < sources)
+    (nodes == 0) | (limit::UNKNOWNS - nodes < sources)
 }
 
 // Whether the limits and the budget are refused by 4.
 pub fn bad_counts(o: Options) -> bool
     ensures { λ r. ⌜ r ≡ badCounts o ⌝ }
 {
-    let limits = (PASSES < o.itl1) | (PASSES < o.itl3) | (PASSES < o.itl4);
-    limits | (o.budget == 0) | (BUDGET < o.budget)
+    let limits = (limit::PASSES < o.itl1) | (limit::PASSES < o.itl3) | (limit::PASSES < o.itl4);
+    limits | (o.budget == 0) | (limit::BUDGET < o.budget)
 }
 
 // Whether a lent buffer is too short.
 fn bad_room(z: Sizes) -> bool
-    requires { ⌜ z .nodes + z .sources ≤ 48 ⌝ }
+    requires { ⌜ z .nodes + z .sources ≤ mostUnknowns ⌝ }
     ensures { λ r. ⌜ r ≡ badRoom z ⌝ }
 {
     let n = z.nodes + z.sources;

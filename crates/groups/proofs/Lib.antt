@@ -2,4 +2,3 @@ pub mod Tags
 pub mod Walk
 pub mod Numbers
 pub mod Passed
-pub mod Listing

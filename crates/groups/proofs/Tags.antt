@@ -10,7 +10,7 @@ use Rattle.sheet.proofs.Element.{the-type}
 use Rattle.sheet.specs.declared.Element.{Element}
 use Rattle.sheet.specs.declared.Element.the-variants.{R, I, «V», D, Isin, Vsin, Vpwl, C, Vcvs, Vccs}
 use Rattle.sheet.specs.Kind.{kindOf}
-use Rattle.groups.specs.Passing.{outside}
+use Rattle.groups.specs.Records.{outside}
 
 kind-tag : (e : Element) → tagOf the-type e + 1 ≡ kindOf e
 unfolding kindOf

@@ -1,28 +1,44 @@
--- A loop over the records of a sheet that stamps what a group f writes: one record more, and the end. Assumes nothing.
-use Prim.Native.Nat.{ℕ, _+_, _≤_}
-use mathlib.Core.Path.{_≡_, sym, ap, _∙_, subst}
+-- A loop over the records of a sheet that stamps what a group f writes: its invariant, its start, one record more, and its end. Assumes nothing.
+use Prim.Native.Nat.{ℕ, _+_, _≤_, _<_}
+use mathlib.Core.Path.{_≡_, refl, sym, ap, _∙_}
 use mathlib.Core.List.{List, []}
 use native.Mathlib.Nat.{le-antisymm}
 use native.Mathlib.Numerals.{add-one}
+use native.Mathlib.Omega.{arith}
+use lib.ListN.{length}
 use lib.Ieee.{Float}
 use Rattle.sheet.specs.declared.Element.{Element}
+use Rattle.sheet.specs.declared.Decoded.{Decoded}
+use Rattle.sheet.specs.Check.{recordsOf}
 use Rattle.stamps.specs.Write.{Write, stamped}
-use Rattle.stamps.specs.Laws.{joined}
-use Rattle.groups.specs.Records.{elementAt, onRecord, writesOf}
-use Rattle.groups.specs.Passing.{recordIn, Quiet, in-group}
+use Rattle.stamps.specs.laws.Write.{joined, stamped-length}
+use Rattle.groups.specs.Records.{elementAt, onRecord, recordIn, writesOf}
+use Rattle.groups.specs.laws.Passing.{Quiet, in-group}
 
 module _ (f : Element → List Write) (n : ℕ) (sheet : List ℕ) (m₀ : List Float) where
   -- what the first i records make of m₀
   abbrev pub after : ℕ → List Float
   after i = stamped n (writesOf (λ _. f) sheet i) m₀
 
-  pub one-more : (low high : ℕ) → Quiet low high f [] → (i : ℕ) (m m′ : List Float) → m ≡ after i → m′ ≡ stamped n (onRecord f [] (recordIn low high sheet i)) m → m′ ≡ after (i + 1)
-  unfolding writesOf
-  one-more low high quiet i m m′ e e′ =
-      rw add-one
-      (e′
-      ∙ (ap (λ (ws : List Write). stamped n ws m) (in-group low high sheet i f [] quiet)
-      ∙ (ap (stamped n (onRecord f [] (elementAt sheet i))) e ∙ sym (joined n (writesOf (λ _. f) sheet i) (onRecord f [] (elementAt sheet i)) m₀))))
+  -- at record i of so many, with the matrix m
+  abbrev pub Walking : ℕ → ℕ → List Float → Type 0
+  Walking count i m = (i ≤ count) × (length m ≡ length m₀) × (m ≡ after i)
 
-  pub all-done : (i k : ℕ) (m : List Float) → i ≤ k → k ≤ i → m ≡ after i → m ≡ after k
-  all-done i k m p q e = subst (λ (j : ℕ). m ≡ after j) (le-antisymm p q) e
+  pub at-first : (count : ℕ) → Walking count 0 m₀
+  unfolding writesOf stamped
+  at-first count = (omega arith, refl, refl)
+
+  -- record i, which the group reads as d
+  pub one-more : (low high : ℕ) → Quiet low high f [] → (count i : ℕ) (m m′ : List Float) (d : Decoded) → i < count → Walking count i m → d ≡ recordIn low high sheet i → m′ ≡ stamped n (onRecord f [] d) m → Walking count (i + 1) m′
+  unfolding writesOf
+  one-more low high quiet count i m m′ d l w r e =
+      let k : m′ ≡ after (i + 1)
+      = rw add-one
+      (e
+      ∙ (ap (λ (d : Decoded). stamped n (onRecord f [] d) m) r
+      ∙ (ap (λ (ws : List Write). stamped n ws m) (in-group low high sheet i f [] quiet)
+      ∙ (ap (stamped n (onRecord f [] (elementAt sheet i))) (w .2) ∙ sym (joined n (writesOf (λ _. f) sheet i) (onRecord f [] (elementAt sheet i)) m₀))))) in
+      (omega arith, ap (λ (x : List Float). length x) k ∙ stamped-length n _ m₀, k)
+
+  pub at-last : (count i : ℕ) (m : List Float) → count ≡ recordsOf sheet → count ≤ i → Walking count i m → m ≡ after (recordsOf sheet)
+  at-last count i m k l w = w .2 ∙ ap after (le-antisymm (w .0) l ∙ k)

@@ -1,16 +1,16 @@
 -- The diodes: each is linearized at the last solved vector, from its own memory. One whose current is not finite ends the stamping.
--- Clients cite Stamped, stampedOf, diodesOf and hasDiodes.
-use Prim.Native.Nat.{ℕ, zero, suc}
-use mathlib.Core.Bool.{Bool, false, cond, _||_}
+-- Clients cite Stamped, stampedOf and diodesOf.
+use Prim.Native.Nat.{ℕ}
+use mathlib.Core.Bool.{cond}
 use mathlib.Core.List.{List}
 use lib.Dec.{eqb}
 use lib.ListN.{getD, set}
 use lib.Ieee.{Float, nan}
+use Rattle.numbers.specs.Verdicts.{diodeCurrent}
 use Rattle.options.specs.declared.Options.{Options}
 use Rattle.loops.specs.Loop.{turns}
 use Rattle.sheet.specs.declared.Element.{Element}
 use Rattle.sheet.specs.declared.Element.the-variants.{R, I, «V», D, Isin, Vsin, Vpwl, C, Vcvs, Vccs}
-use Rattle.sheet.specs.Record.{kindAt}
 use Rattle.sheet.specs.Check.{recordsOf}
 use Rattle.stamps.specs.Write.{stamped}
 use Rattle.stamps.specs.Kinds.{diodeWrites}
@@ -31,7 +31,7 @@ stampedOf code m y = record { code = code; matrix = m; memory = y }
 -- the diode of record i takes its new voltage into the memory and writes its model; "22 diode current not finite" changes neither
 abbrev pub companion : ℕ → ℕ → ℕ → ℕ → Linear → List Float → List Float → Stamped
 companion n i a b (Model g c v) m y = stampedOf 0 (stamped n (diodeWrites n a b g c) m) (set y i v)
-companion n i a b NotFinite m y = stampedOf 22 m y
+companion n i a b NotFinite m y = stampedOf diodeCurrent m y
 
 -- one element, at the last solved vector x
 unfoldable pub biased : Options → ℕ → List Float → ℕ → List Float → List Float → Element → Stamped
@@ -54,12 +54,3 @@ biasedAt o sheet n x i s =
 -- all of them, in list order
 unfoldable pub diodesOf : Options → List ℕ → ℕ → List Float → List Float → List Float → Stamped
 diodesOf o sheet n x m y = turns (recordsOf sheet) (biasedAt o sheet n x) (stampedOf 0 m y)
-
--- whether one of the first k records is of a diode's kind
-unfoldable pub diodeBelow : List ℕ → ℕ → Bool
-diodeBelow sheet zero = false
-diodeBelow sheet (suc k) = diodeBelow sheet k || eqb (kindAt sheet k) 4
-
--- whether some record is
-unfoldable pub hasDiodes : List ℕ → Bool
-hasDiodes sheet = diodeBelow sheet (recordsOf sheet)

@@ -1,9 +1,8 @@
+-- What each group of stamps writes, and what a pass stamps. Read Records, Plain, Sources, Diodes, then Stamping; Listed has the diodes found once. `laws` holds what is proved of them.
 pub mod Records
-pub mod Passing
-pub mod Linear
+pub mod Plain
 pub mod Sources
 pub mod Diodes
 pub mod Stamping
-pub mod Quiet
 pub mod Listed
-pub mod Laws
+pub mod laws

@@ -1,18 +1,28 @@
--- The records of a sheet as a group of stamps sees them. Clients cite elementAt, onRecord, writesOf and across.
+-- The records of a sheet as a group of stamps sees them. Clients cite elementAt, recordIn, onRecord, writesOf and across.
 use Prim.Native.Nat.{ℕ, zero, suc}
+use mathlib.Core.Bool.{Bool, cond, _||_}
 use mathlib.Core.List.{List, [], _++_}
+use lib.Dec.{ltb}
 use lib.ListN.{getD}
 use lib.Ieee as Ieee
 use lib.Ieee.{Float, nan, binary64}
 use Rattle.sheet.specs.declared.Element.{Element}
 use Rattle.sheet.specs.declared.Decoded.{Decoded}
 use Rattle.sheet.specs.declared.Decoded.the-variants.{Good, Refused}
-use Rattle.sheet.specs.Record.{recordAt, decodeOf}
+use Rattle.sheet.specs.Record.{recordAt, kindAt, decodeOf}
 use Rattle.stamps.specs.Write.{Write}
 
 -- what record i decodes to
 abbrev pub elementAt : List ℕ → ℕ → Decoded
 elementAt sheet i = decodeOf (recordAt sheet i)
+
+-- a kind that is not among those from low to high
+abbrev pub outside : ℕ → ℕ → ℕ → Bool
+outside low high kind = ltb kind low || ltb high kind
+
+-- record i, not decoded where its kind is outside
+unfoldable pub recordIn : ℕ → ℕ → List ℕ → ℕ → Decoded
+recordIn low high sheet i = cond (outside low high (kindAt sheet i)) (Refused 0) (elementAt sheet i)
 
 -- what a group makes of a record's element; x where it has none
 abbrev pub onRecord : {X : Type 0} → (Element → X) → X → Decoded → X

@@ -4,6 +4,7 @@ use mathlib.Core.Bool.{cond}
 use mathlib.Core.List.{List}
 use lib.Dec.{eqb}
 use lib.Ieee.{Float}
+use Rattle.numbers.specs.Verdicts.{sineRefused}
 use Rattle.loops.specs.Loop.{turns}
 use Rattle.sheet.specs.declared.Element.{Element}
 use Rattle.sheet.specs.declared.Element.the-variants.{R, I, «V», D, Isin, Vsin, Vpwl, C, Vcvs, Vccs}
@@ -28,7 +29,7 @@ drivenOf code m = record { code = code; matrix = m }
 -- what a source writes at its level; "26 sine refused by 12"
 abbrev pub levelled : ℕ → (Float → List Write) → Level → List Float → Driven
 levelled n f (Value x) m = drivenOf 0 (stamped n (f x) m)
-levelled n f Refused m = drivenOf 26 m
+levelled n f Refused m = drivenOf sineRefused m
 
 -- one element at the time t
 unfoldable pub driven : List ℕ → Float → ℕ → ℕ → List Float → Element → Driven

@@ -9,7 +9,7 @@ use Rattle.num.specs.Floats.{nought}
 use Rattle.options.specs.declared.Options.{Options}
 use Rattle.loops.specs.Loop.{copied, zerosLike}
 use Rattle.groups.specs.declared.Pass.{Pass}
-use Rattle.groups.specs.Linear.{basedOn, dependentOf, storageOf}
+use Rattle.groups.specs.Plain.{basedOn, dependentOf, storageOf}
 use Rattle.groups.specs.Sources.{Driven, drivenOf, independentOf}
 use Rattle.groups.specs.Diodes.{Stamped, stampedOf, diodesOf}
 

@@ -3,30 +3,24 @@ use super::records::across;
 use super::records::number_at;
 use super::records::record_in;
 use models::diode::Linear;
+use numbers::kind;
+use numbers::limit;
+use numbers::verdict;
 use options::Options;
 use sheet::Decoded;
 ghost use mathlib.Core.Path.{_≡_};
-ghost use Prim.Native.Nat.{_-_, _≤_, min};
+ghost use Prim.Native.Nat.{_-_, min};
 ghost use lib.ListN.{length, set};
+ghost use Rattle.numbers.specs.Limits.{mostRecords};
 ghost use Rattle.loops.specs.Loop.{turns};
 ghost use Rattle.sheet.specs.Record.{diodeOf};
 ghost use Rattle.sheet.specs.Check.{recordsOf};
-ghost use Rattle.groups.specs.Diodes.{stampedOf, companion, biased, biasedAt, hasDiodes};
-ghost use Rattle.groups.specs.Listed.{diodeIn, asDiode, listedAt, restAt, Listed, listedOf};
-
-// The kind of a diode's record.
-const DIODE: u8 = 4;
-
-// So many records of a sheet can be listed, each by a byte.
-const LISTED: usize = 256;
-
-// A diode's current is not finite.
-const CURRENT: u8 = 22;
+ghost use Rattle.groups.specs.Diodes.{stampedOf, companion, biased, biasedAt};
+ghost use Rattle.groups.specs.Listed.{diodeIn, placesOf, diodePlaces, asDiode, listedAt, restAt, listedOf};
 
 // Writes the places of the diodes at the front of `places`, in rising order, and answers how many they are. It walks the first 256 records, or as many as `places` has bytes if that is fewer.
 pub fn list_diodes(sheet: &[u8], places: &mut [u8]) -> usize
-    ensures bounded { λ r. ⌜ r ≤ length (now (places .entry)) ⌝ }
-    ensures listed { λ r. ⌜ (256 ≤ length (now (places .entry)) → Listed (now (sheet .entry)) r (now (places .exit))) ⌝ }
+    ensures { λ r. ⌜ placesOf r (now (places .exit)) ≡ diodePlaces (now (sheet .entry)) (now (places .entry)) ⌝ }
 {
     let count = walked(sheet::records(sheet), places.len());
     let mut found = 0;
@@ -39,11 +33,15 @@ pub fn list_diodes(sheet: &[u8], places: &mut [u8]) -> usize
     found
 }
 
-// The least of two numbers and 256.
+// The least of two numbers and the most records that can be listed.
 fn walked(a: usize, b: usize) -> usize
-    ensures { λ r. ⌜ r ≡ min (min a 256) b ⌝ }
+    ensures { λ r. ⌜ r ≡ min (min a mostRecords) b ⌝ }
 {
-    let most = if a < LISTED { a } else { LISTED };
+    let most = if a < limit::RECORDS {
+        a
+    } else {
+        limit::RECORDS
+    };
     if most < b { most } else { b }
 }
 
@@ -51,22 +49,10 @@ fn walked(a: usize, b: usize) -> usize
 fn diode_in(sheet: &[u8], i: usize) -> bool
     ensures { λ r. ⌜ r ≡ diodeIn (now (sheet .entry)) i ⌝ }
 {
-    let Decoded::Good(_) = record_in(sheet, i, 4, 4) else {
+    let Decoded::Good(_) = record_in(sheet, i, kind::DIODE, kind::DIODE) else {
         return false;
     };
     true
-}
-
-// Whether some record is of a diode's kind.
-pub fn has_diodes(sheet: &[u8]) -> bool
-    ensures { λ r. ⌜ r ≡ hasDiodes (now (sheet .entry)) ⌝ }
-{
-    let count = sheet::records(sheet);
-    let mut found = false;
-    for i in 0..count {
-        found = found | (sheet::kind_at(sheet, i) == DIODE);
-    }
-    found
 }
 
 // Stamps the records at `places`, each as a diode at the vector x, and then the diodes after the first 256 records, and answers 0 or the verdict that ended it.
@@ -121,11 +107,11 @@ fn stamp_rest(
     memory: &mut [f64],
     m: &mut [f64],
 ) -> u8
-    ensures { λ r. ⌜ stampedOf r (now (m .exit)) (now (memory .exit)) ≡ turns (recordsOf (now (sheet .entry)) - 256) (restAt o (now (sheet .entry)) n (now (x .entry))) (stampedOf before (now (m .entry)) (now (memory .entry))) ⌝ }
+    ensures { λ r. ⌜ stampedOf r (now (m .exit)) (now (memory .exit)) ≡ turns (recordsOf (now (sheet .entry)) - mostRecords) (restAt o (now (sheet .entry)) n (now (x .entry))) (stampedOf before (now (m .entry)) (now (memory .entry))) ⌝ }
 {
     let count = sheet::records(sheet);
     let mut code = before;
-    for i in LISTED..count {
+    for i in limit::RECORDS..count {
         code = diode_at(code, o, sheet, n, x, i, memory, m);
     }
     code
@@ -212,7 +198,7 @@ fn stamp_model(
         memory: v,
     } = l
     else {
-        return CURRENT;
+        return verdict::DIODE_CURRENT;
     };
     put(memory, i, v);
     stamps::stamp_diode(m, n, a, b, g, current);

@@ -1,7 +1,7 @@
 // The stamping groups over a sheet: the base of a run, and what each pass adds to it. Every function is total: a record that does not decode writes
 // nothing, a number read past the end of a vector is no number, and nothing is written outside the system or past a buffer's end.
 pub mod diodes;
-mod linear;
+mod plain;
 mod records;
 mod sources;
 
@@ -23,7 +23,7 @@ pub fn stamp_base(sheet: &[u8], nodes: usize, order: usize, base: &mut [f64])
     ensures { λ _. ⌜ now (base .exit) ≡ baseOf nodes order (now (sheet .entry)) (now (base .entry)) ⌝ }
 {
     loops::fill(base, 0.0);
-    linear::stamp_base(sheet, nodes, order, base);
+    plain::stamp_base(sheet, nodes, order, base);
 }
 
 // Stamps over a copy of the base what a pass has besides its diodes, and answers 0, or the verdict 26 that ended it.
@@ -50,8 +50,8 @@ pub fn stamp_linear(
 fn complete(p: Pass, sheet: &[u8], accepted: &[f64], matrix: &mut [f64])
     ensures { λ _. ⌜ now (matrix .exit) ≡ completed p (now (sheet .entry)) (now (accepted .entry)) (now (matrix .entry)) ⌝ }
 {
-    linear::stamp_dependent(sheet, p.nodes, p.order, matrix);
-    linear::stamp_storage_if(p.transient, sheet, p.order, accepted, p.step, matrix);
+    plain::stamp_dependent(sheet, p.nodes, p.order, matrix);
+    plain::stamp_storage_if(p.transient, sheet, p.order, accepted, p.step, matrix);
 }
 
 // The time at which sources have their level.

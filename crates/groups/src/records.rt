@@ -3,8 +3,7 @@ use sheet::Decoded;
 ghost use mathlib.Core.Path.{_≡_};
 ghost use lib.ListN.{getD};
 ghost use lib.Ieee.{nan};
-ghost use Rattle.groups.specs.Passing.{recordIn};
-ghost use Rattle.groups.specs.Records.{across as acrossOf};
+ghost use Rattle.groups.specs.Records.{recordIn, across as acrossOf};
 
 // Record i, decoded only where its kind is among those from low to high.
 pub fn record_in(sheet: &[u8], i: usize, low: u8, high: u8) -> Decoded

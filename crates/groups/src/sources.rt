@@ -3,6 +3,8 @@ use super::records::record_in;
 use models::sine::Level;
 use models::sine::evaluate;
 use models::vpwl;
+use numbers::kind;
+use numbers::verdict;
 use sheet::Decoded;
 use sheet::Element;
 use sheet::NodeId;
@@ -14,9 +16,6 @@ ghost use Rattle.models.specs.declared.sine.Level.the-variants.{Value};
 ghost use Rattle.models.specs.Vpwl.{patternAt, pointsFrom};
 ghost use Rattle.groups.specs.Sources.{drivenOf, levelled, driven, drivenAt, independentOf};
 ghost use Rattle.groups.specs.Records.{onRecord};
-
-// A sine was refused.
-const SINE: u8 = 26;
 
 // Stamps the sources at time t, in the order of the records, and answers 0 or the verdict that ended it.
 pub fn stamp_independent(
@@ -53,7 +52,14 @@ fn source_at(
     if code != 0 {
         return code;
     }
-    source_one(record_in(sheet, i, 5, 7), points, t, nodes, n, m)
+    source_one(
+        record_in(sheet, i, kind::ISIN, kind::VPWL),
+        points,
+        t,
+        nodes,
+        n,
+        m,
+    )
 }
 
 // What a record writes as a source.
@@ -107,7 +113,7 @@ fn current(l: Level, n: usize, p: NodeId, q: NodeId, m: &mut [f64]) -> u8
     ensures { λ r. ⌜ drivenOf r (now (m .exit)) ≡ levelled n (currentWrites n (p .0) (q .0)) l (now (m .entry)) ⌝ }
 {
     let Level::Value(x) = l else {
-        return SINE;
+        return verdict::SINE_REFUSED;
     };
     stamps::stamp_current(m, n, p.0 as usize, q.0 as usize, x);
     0
@@ -126,7 +132,7 @@ fn voltage(
     ensures { λ r. ⌜ drivenOf r (now (m .exit)) ≡ levelled n (voltageWrites n (rowOf nodes source) (p .0) (q .0)) l (now (m .entry)) ⌝ }
 {
     let Level::Value(x) = l else {
-        return SINE;
+        return verdict::SINE_REFUSED;
     };
     let s = sheet::row_of(nodes, source);
     stamps::stamp_voltage(m, n, s, p.0 as usize, q.0 as usize, x);

@@ -1,14 +1,14 @@
 -- Laws of a pattern's points: past the end of the bytes a point is (0, 0), a part is its first point and the rest, and the last of a part stands at its end.
 use Prim.Native.Nat.{ℕ, zero, suc, _+_, _-_, _*_, _/_, _<_}
-use mathlib.Core.Path.{_≡_, refl, sym, ap, _∙_}
+use mathlib.Core.Path.{_≡_, refl, _∙_}
 use mathlib.Core.Bool.{true, false}
-use mathlib.Core.List.{List, [], _∷_}
+use mathlib.Core.List.{List, _∷_}
 use native.Mathlib.Nat.{add-zero}
 use native.Mathlib.Omega.{arith}
 use lib.ListN.{length}
 use lib.Ieee.{Float, lt}
-use Rattle.num.specs.Le.{le64, floatAt}
-use Rattle.num.specs.Past.{past64}
+use Rattle.num.specs.Le.{floatAt}
+use Rattle.num.specs.laws.Past.{past64}
 use Rattle.num.specs.Floats.{nought}
 use Rattle.models.specs.declared.vpwl.Point.{Point}
 use Rattle.models.specs.Vpwl.{pointAt, pointsFrom, lastOf, between, patternAt, levelAt}

@@ -1,13 +1,15 @@
 -- The diode: "Limiting follows `linearize`". Clients cite linearized, verdictOf and memoryOf.
 use Prim.Native.Nat.{ℕ}
-use mathlib.Core.Bool.{Bool, true, false, cond}
+use mathlib.Core.Bool.{cond}
 use lib.Ieee.{Float, binary64, ofBits, lt, le}
 use lib.Ieee.Scale.{finite}
+use Rattle.numbers.specs.Verdicts.{settled, diodeCurrent}
 use Rattle.num.specs.Floats.{nought, absoluteOf}
 use Rattle.options.specs.declared.Options.{Options}
 use Rattle.functions.specs.Exp.{expOf}
 use Rattle.functions.specs.Ln.{lnOf}
-use Rattle.models.specs.Signs.{_⊕_, _⊖_, _⊗_, _⊘_, one, two}
+use Rattle.models.specs.Signs.{_⊕_, _⊖_, _⊗_, _⊘_}
+use Rattle.num.specs.Literals.{one, two}
 use Rattle.models.specs.declared.diode.Linear.{Linear}
 use Rattle.models.specs.declared.diode.Linear.the-variants.{Model, NotFinite}
 
@@ -60,8 +62,8 @@ linearized o isat tdegc v last =
 
 -- the verdict's number: "22 diode current not finite (the Rust panics)"
 unfoldable pub verdictOf : Linear → ℕ
-verdictOf (Model g i v) = 0
-verdictOf NotFinite = 22
+verdictOf (Model g i v) = settled
+verdictOf NotFinite = diodeCurrent
 
 -- the diode's memory afterwards: the limited voltage. A diode that fails keeps its last one, since the Rust panics before it stores.
 unfoldable pub memoryOf : Float → Linear → Float

@@ -1,10 +1,12 @@
 -- The sinusoidal sources. Clients cite sineAt, verdictOf and valueOf.
 use Prim.Native.Nat.{ℕ}
 use lib.Ieee.{Float, nan, binary64, ofBits}
+use Rattle.numbers.specs.Verdicts.{settled, sineRefused}
 use Rattle.functions.specs.declared.Sine.{Sine}
 use Rattle.functions.specs.declared.Sine.the-variants.{Value as Is, Refused as No}
 use Rattle.functions.specs.Sin.{sinOf}
-use Rattle.models.specs.Signs.{_⊕_, _⊗_, two}
+use Rattle.models.specs.Signs.{_⊕_, _⊗_}
+use Rattle.num.specs.Literals.{two}
 use Rattle.models.specs.declared.sine.Level.{Level}
 use Rattle.models.specs.declared.sine.Level.the-variants.{Value, Refused}
 
@@ -22,8 +24,8 @@ sineAt vo va freq t = levelOf vo va (sinOf (two ⊗ PI ⊗ freq ⊗ t))
 
 -- the verdict's number: "26 sine refused by 12"
 unfoldable pub verdictOf : Level → ℕ
-verdictOf (Value x) = 0
-verdictOf Refused = 26
+verdictOf (Value x) = settled
+verdictOf Refused = sineRefused
 
 -- the level's value, a NaN where it has none
 unfoldable pub valueOf : Level → Float

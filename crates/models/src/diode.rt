@@ -3,7 +3,8 @@ ghost use mathlib.Core.Path.{_≡_};
 ghost use mathlib.Core.Bool.{false};
 ghost use lib.Ieee.{le};
 ghost use Rattle.num.specs.Floats.{absoluteOf};
-ghost use Rattle.models.specs.Signs.{_⊖_, _⊗_, two};
+ghost use Rattle.models.specs.Signs.{_⊖_, _⊗_};
+ghost use Rattle.num.specs.Literals.{two};
 ghost use Rattle.models.specs.Diode.{thermal, critical, limited, floored, modelAt, linearized};
 use options::Options;
 

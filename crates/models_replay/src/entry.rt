@@ -4,27 +4,29 @@ use models::diode::Linear;
 use models::sine::Level;
 use num::f64_at;
 use num::u64_at;
+use numbers::verdict::DIODE_CURRENT;
+use numbers::verdict::SINE_REFUSED;
 use options::Options;
 
-pub const PATTERN: u8 = 0;
+pub const PATTERNS: u8 = 0;
 
-pub const CAPACITOR: u8 = 1;
+pub const CAPACITORS: u8 = 1;
 
-pub const DIODE: u8 = 2;
+pub const DIODES: u8 = 2;
 
-pub const SINE: u8 = 3;
+pub const SINES: u8 = 3;
 
 // The bytes of an entry.
 pub fn size_of(kind: u8) -> usize
     ensures { λ r. ⌜ r ≤ 144 ⌝ }
 {
-    if kind == PATTERN {
+    if kind == PATTERNS {
         return 144;
     }
-    if kind == CAPACITOR {
+    if kind == CAPACITORS {
         return 40;
     }
-    if kind == DIODE {
+    if kind == DIODES {
         return 88;
     }
     48
@@ -32,13 +34,13 @@ pub fn size_of(kind: u8) -> usize
 
 // Whether the model answers the entry e as it is stored.
 pub fn is_right(e: &[u8], kind: u8) -> bool {
-    if kind == PATTERN {
+    if kind == PATTERNS {
         return pattern_right(e);
     }
-    if kind == CAPACITOR {
+    if kind == CAPACITORS {
         return capacitor_right(e);
     }
-    if kind == DIODE {
+    if kind == DIODES {
         return diode_right(e);
     }
     sine_right(e)
@@ -89,7 +91,7 @@ fn diode_right(e: &[u8]) -> bool {
             }
             false
         }
-        Linear::NotFinite => verdict == 22,
+        Linear::NotFinite => verdict == DIODE_CURRENT as u64,
     }
 }
 
@@ -114,7 +116,7 @@ fn sine_right(e: &[u8]) -> bool {
             }
             false
         }
-        Level::Refused => verdict == 26,
+        Level::Refused => verdict == SINE_REFUSED as u64,
     }
 }
 

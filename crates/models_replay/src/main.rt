@@ -13,10 +13,10 @@ struct Tally {
 }
 
 fn main() {
-    replay(b"patterns", entry::PATTERN);
-    replay(b"capacitors", entry::CAPACITOR);
-    replay(b"diodes", entry::DIODE);
-    replay(b"sines", entry::SINE);
+    replay(b"patterns", entry::PATTERNS);
+    replay(b"capacitors", entry::CAPACITORS);
+    replay(b"diodes", entry::DIODES);
+    replay(b"sines", entry::SINES);
 }
 
 // Compares every answer of the file and writes its line.

@@ -4,8 +4,8 @@ use mathlib.Core.Bool.{Bool, cond, not, _||_}
 use mathlib.Core.List.{List}
 use lib.ListN.{length}
 use lib.Dec.{eqb, ltb}
+use Rattle.numbers.specs.Limits.{mostRecords, mostPoints}
 use Rattle.sheet.specs.declared.Limits.{Limits}
-use Rattle.sheet.specs.declared.Element.{Element}
 use Rattle.sheet.specs.declared.Decoded.{Decoded}
 use Rattle.sheet.specs.declared.Decoded.the-variants.{Good, Refused}
 use Rattle.sheet.specs.declared.Checked.{Checked}
@@ -37,9 +37,9 @@ checkOf sheet l = checkFrom sheet l (recordsOf sheet) 0
 -- The numbers of the answers
 
 -- a record that decodes has no refusal of 6 and 7: 0
-abbrev pub refusalOf : Decoded → ℕ
-refusalOf (Good e) = 0
-refusalOf (Refused k) = k
+abbrev pub recordRefusal : Decoded → ℕ
+recordRefusal (Good e) = 0
+recordRefusal (Refused k) = k
 
 -- a refusal returns its number and a record place; a clean sheet has 0 for both
 abbrev pub numberOf : Checked → ℕ
@@ -58,8 +58,8 @@ notWhole size most len = not (eqb (len % size) 0) || ltb most (len / size)
 
 -- 2: sheet not whole records, or above 256
 unfoldable pub badSheet : ℕ → Bool
-badSheet len = notWhole recordBytes 256 len
+badSheet len = notWhole recordBytes mostRecords len
 
 -- 3: points not whole, or above 1,024
 unfoldable pub badPoints : ℕ → Bool
-badPoints len = notWhole pointBytes 1024 len
+badPoints len = notWhole pointBytes mostPoints len

@@ -3,6 +3,8 @@ use Prim.Native.Nat.{ℕ, _+_}
 use mathlib.Core.Bool.{Bool, true, false, _&&_}
 use mathlib.Core.List.{List, [], _∷_}
 use lib.Dec.{leb, ltb}
+use Rattle.numbers.specs.Refusals.{byNode, bySource, byPattern}
+use Rattle.num.specs.Lists.{every}
 use Rattle.sheet.specs.declared.NodeId.{NodeId}
 use Rattle.sheet.specs.declared.SourceId.{SourceId}
 use Rattle.sheet.specs.declared.Limits.{Limits}
@@ -48,10 +50,6 @@ pointsOf (C p q x) = 0
 pointsOf (Vcvs p q cp cq x s) = 0
 pointsOf (Vccs p q cp cq x) = 0
 
-abbrev pub every : {A : Type 0} → (A → Bool) → List A → Bool
-every test [] = true
-every test (x ∷ xs) = test x && every test xs
-
 abbrev pub nodeBelow : ℕ → NodeId → Bool
 nodeBelow nodes p = ltb (p .0) nodes
 
@@ -72,9 +70,9 @@ pointsFit points e = leb (pointsOf e) points
 
 -- of a record's refusals the lowest number: 8, 9, 10, or 0 where its nodes, its source and its points fit
 abbrev pub lowest : (nodes sources points : Bool) → ℕ
-lowest false sources points = 8
-lowest true false points = 9
-lowest true true false = 10
+lowest false sources points = byNode
+lowest true false points = bySource
+lowest true true false = byPattern
 lowest true true true = 0
 
 unfoldable pub elementFault : Limits → Element → ℕ

@@ -1,11 +1,12 @@
--- The element sheet: what stands in a record, and what a record means. Clients cite recordAt, kindAt, decodeOf, decodeAs and decode-own.
+-- The element sheet: what stands in a record, and what a record means. Clients cite recordAt, kindAt, decodeOf and decodeAs.
 -- Records of 40 bytes, no header, little-endian. A byte past the end counts as 0.
 use Prim.Native.Nat.{ℕ, zero, suc, _+_, _*_}
-use mathlib.Core.Path.{_≡_}
 use mathlib.Core.Bool.{Bool, true, false, cond, _&&_, _||_}
 use mathlib.Core.List.{List}
 use lib.ListN.{getD, take, drop}
 use lib.Dec.{eqb, leb}
+use Rattle.numbers.specs.Kinds.{resistor, current, voltage, diode, isin, vsin, vpwl, capacitor, vcvs, vccs}
+use Rattle.numbers.specs.Refusals.{byKind, byUnused}
 use Rattle.num.specs.Le.{le16, floatAt}
 use Rattle.sheet.specs.declared.NodeId.{NodeId}
 use Rattle.sheet.specs.declared.SourceId.{SourceId}
@@ -69,17 +70,17 @@ vccsOf r = Vccs (nodeAt r 2) (nodeAt r 4) (nodeAt r 6) (nodeAt r 8) (floatAt r 1
 -- the kind byte decides among ten records; any other kind is refused by 6
 unfoldable pub elementOf : ℕ → List ℕ → Decoded
 elementOf kind r =
-    cond (eqb kind 1) (Good (resistorOf r))
-    (cond (eqb kind 2) (Good (currentOf r))
-    (cond (eqb kind 3) (Good (voltageOf r))
-    (cond (eqb kind 4) (Good (diodeOf r))
-    (cond (eqb kind 5) (Good (isinOf r))
-    (cond (eqb kind 6) (Good (vsinOf r))
-    (cond (eqb kind 7) (Good (vpwlOf r))
-    (cond (eqb kind 8) (Good (capacitorOf r))
-    (cond (eqb kind 9) (Good (vcvsOf r))
-    (cond (eqb kind 10) (Good (vccsOf r))
-    (Refused 6))))))))))
+    cond (eqb kind resistor) (Good (resistorOf r))
+    (cond (eqb kind current) (Good (currentOf r))
+    (cond (eqb kind voltage) (Good (voltageOf r))
+    (cond (eqb kind diode) (Good (diodeOf r))
+    (cond (eqb kind isin) (Good (isinOf r))
+    (cond (eqb kind vsin) (Good (vsinOf r))
+    (cond (eqb kind vpwl) (Good (vpwlOf r))
+    (cond (eqb kind capacitor) (Good (capacitorOf r))
+    (cond (eqb kind vcvs) (Good (vcvsOf r))
+    (cond (eqb kind vccs) (Good (vccsOf r))
+    (Refused byKind))))))))))
 
 -- what a kind uses besides its two nodes: control nodes, a source number, points, and so many floats
 abbrev pub used : Bool → Bool → Bool → ℕ → Uses
@@ -87,13 +88,13 @@ used c s p f = record { controls = c; source = s; points = p; floats = f }
 
 unfoldable pub usesOf : ℕ → Uses
 usesOf kind =
-    cond (eqb kind 3) (used false true false 1)
-    (cond (eqb kind 4) (used false false false 2)
-    (cond (eqb kind 5) (used false false false 3)
-    (cond (eqb kind 6) (used false true false 3)
-    (cond (eqb kind 7) (used false true true 2)
-    (cond (eqb kind 9) (used true true false 1)
-    (cond (eqb kind 10) (used true false false 1)
+    cond (eqb kind voltage) (used false true false 1)
+    (cond (eqb kind diode) (used false false false 2)
+    (cond (eqb kind isin) (used false false false 3)
+    (cond (eqb kind vsin) (used false true false 3)
+    (cond (eqb kind vpwl) (used false true true 2)
+    (cond (eqb kind vcvs) (used true true false 1)
+    (cond (eqb kind vccs) (used true false false 1)
     (used false false false 1)))))))
 
 -- each of the n bytes from `at` on is zero
@@ -115,7 +116,7 @@ restZero u r =
 abbrev pub ifZero : Bool → Decoded → Decoded
 ifZero rest (Refused k) = Refused k
 ifZero true (Good e) = Good e
-ifZero false (Good e) = Refused 7
+ifZero false (Good e) = Refused byUnused
 
 -- what a record means: the element of its kind, or 6, or 7
 unfoldable pub decodeOf : List ℕ → Decoded
@@ -124,8 +125,3 @@ decodeOf r = ifZero (restZero (usesOf (getD r 0 0)) r) (elementOf (getD r 0 0) r
 -- a record's bytes decoded as if they began with a kind
 unfoldable pub decodeAs : ℕ → List ℕ → Decoded
 decodeAs kind r = ifZero (restZero (usesOf kind) r) (elementOf kind r)
-
--- as its own kind a record is what it is
-pub decode-own : (kind : ℕ) (r : List ℕ) → kind ≡ getD r 0 0 → decodeAs kind r ≡ decodeOf r
-unfolding decodeAs decodeOf
-decode-own kind r e = rw e

@@ -8,7 +8,7 @@ ghost use mathlib.Core.Path.{_≡_};
 ghost use lib.ListN.{length};
 ghost use Rattle.sheet.specs.Record.{recordAt, kindAt, decodeOf, decodeAs};
 ghost use Rattle.sheet.specs.Row.{rowOf};
-ghost use Rattle.sheet.specs.Check.{checkOf, recordsOf, refusalOf, numberOf, placeOf, badSheet, badPoints};
+ghost use Rattle.sheet.specs.Check.{checkOf, recordsOf, recordRefusal, numberOf, placeOf, badSheet, badPoints};
 
 // A node's number; ground is 0.
 pub struct NodeId(pub u16);
@@ -108,14 +108,8 @@ pub struct Limits {
 // The bytes of a record.
 pub const RECORD: usize = 40;
 
-// The most records in a sheet.
-const RECORDS: usize = 256;
-
 // The bytes of a point: time, level.
 pub const POINT: usize = 16;
-
-// The most points in a call.
-const POINTS: usize = 1024;
 
 // The element of a record's bytes, or refusal 6 or 7.
 pub fn decode(bytes: &[u8]) -> Decoded
@@ -135,7 +129,7 @@ fn decode_as(kind: u8, bytes: &[u8]) -> Decoded
     if record::rest_zero(record::uses_of(kind), bytes) {
         d
     } else {
-        Decoded::Refused(7)
+        Decoded::Refused(numbers::refusal::UNUSED)
     }
 }
 
@@ -203,7 +197,7 @@ pub fn check_sheet(sheet: &[u8], l: Limits) -> Checked
 
 // The refusal of a record that did not decode, or 0.
 pub fn refusal(d: Decoded) -> u8
-    ensures { λ r. ⌜ r ≡ refusalOf d ⌝ }
+    ensures { λ r. ⌜ r ≡ recordRefusal d ⌝ }
 {
     match d {
         Decoded::Good(_) => 0,
@@ -246,12 +240,12 @@ pub fn row_of(nodes: usize, s: SourceId) -> usize
 pub fn bad_sheet(len: usize) -> bool
     ensures { λ r. ⌜ r ≡ badSheet len ⌝ }
 {
-    (len % RECORD != 0) | (RECORDS < len / RECORD)
+    (len % RECORD != 0) | (numbers::limit::RECORDS < len / RECORD)
 }
 
 // Whether points of so many bytes are refused by 3.
 pub fn bad_points(len: usize) -> bool
     ensures { λ r. ⌜ r ≡ badPoints len ⌝ }
 {
-    (len % POINT != 0) | (POINTS < len / POINT)
+    (len % POINT != 0) | (numbers::limit::POINTS < len / POINT)
 }

@@ -5,7 +5,8 @@ use super::NodeId;
 use super::SourceId;
 ghost use mathlib.Core.Path.{_≡_};
 ghost use mathlib.Core.List.{[], _∷_};
-ghost use Rattle.sheet.specs.Range.{every, nodeBelow, sourceBelow, nodesFit, sourcesFit, pointsFit, elementFault};
+ghost use Rattle.num.specs.Lists.{every};
+ghost use Rattle.sheet.specs.Range.{nodeBelow, sourceBelow, nodesFit, sourcesFit, pointsFit, elementFault};
 
 // Whether every node of the element is below the node count.
 pub fn nodes_fit(nodes: usize, e: Element) -> bool
@@ -64,13 +65,13 @@ fn lowest(nodes: bool, sources: bool, points: bool) -> u8
     ensures { λ r. ⌜ r ≡ Rattle.sheet.specs.Range.lowest nodes sources points ⌝ }
 {
     if !nodes {
-        return 8;
+        return numbers::refusal::NODE;
     }
     if !sources {
-        return 9;
+        return numbers::refusal::SOURCE;
     }
     if !points {
-        return 10;
+        return numbers::refusal::PATTERN;
     }
     0
 }

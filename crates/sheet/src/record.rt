@@ -29,17 +29,17 @@ pub fn element_of(kind: u8, bytes: &[u8]) -> Decoded
     ensures { λ r. ⌜ r ≡ elementOf kind (now (bytes .entry)) ⌝ }
 {
     match kind {
-        1 => Decoded::Good(kinds::resistor(bytes)),
-        2 => Decoded::Good(kinds::current(bytes)),
-        3 => Decoded::Good(kinds::voltage(bytes)),
-        4 => Decoded::Good(kinds::diode(bytes)),
-        5 => Decoded::Good(kinds::isin(bytes)),
-        6 => Decoded::Good(kinds::vsin(bytes)),
-        7 => Decoded::Good(kinds::vpwl(bytes)),
-        8 => Decoded::Good(kinds::capacitor(bytes)),
-        9 => Decoded::Good(kinds::vcvs(bytes)),
-        10 => Decoded::Good(kinds::vccs(bytes)),
-        0 | 11..=255 => Decoded::Refused(6),
+        numbers::kind::RESISTOR => Decoded::Good(kinds::resistor(bytes)),
+        numbers::kind::CURRENT => Decoded::Good(kinds::current(bytes)),
+        numbers::kind::VOLTAGE => Decoded::Good(kinds::voltage(bytes)),
+        numbers::kind::DIODE => Decoded::Good(kinds::diode(bytes)),
+        numbers::kind::ISIN => Decoded::Good(kinds::isin(bytes)),
+        numbers::kind::VSIN => Decoded::Good(kinds::vsin(bytes)),
+        numbers::kind::VPWL => Decoded::Good(kinds::vpwl(bytes)),
+        numbers::kind::CAPACITOR => Decoded::Good(kinds::capacitor(bytes)),
+        numbers::kind::VCVS => Decoded::Good(kinds::vcvs(bytes)),
+        numbers::kind::VCCS => Decoded::Good(kinds::vccs(bytes)),
+        0 | 11..=255 => Decoded::Refused(numbers::refusal::KIND),
     }
 }
 
@@ -48,13 +48,13 @@ pub fn uses_of(kind: u8) -> Uses
     ensures { λ r. ⌜ r ≡ usesOf kind ⌝ }
 {
     match kind {
-        3 => used(false, true, false, 1),
-        4 => used(false, false, false, 2),
-        5 => used(false, false, false, 3),
-        6 => used(false, true, false, 3),
-        7 => used(false, true, true, 2),
-        9 => used(true, true, false, 1),
-        10 => used(true, false, false, 1),
+        numbers::kind::VOLTAGE => used(false, true, false, 1),
+        numbers::kind::DIODE => used(false, false, false, 2),
+        numbers::kind::ISIN => used(false, false, false, 3),
+        numbers::kind::VSIN => used(false, true, false, 3),
+        numbers::kind::VPWL => used(false, true, true, 2),
+        numbers::kind::VCVS => used(true, true, false, 1),
+        numbers::kind::VCCS => used(true, false, false, 1),
         _ => used(false, false, false, 1),
     }
 }

@@ -4,14 +4,12 @@ use Prim.Native.Nat.{ℕ}
 use mathlib.Core.List.{List, [], _∷_, _++_}
 use lib.Ieee as Ieee
 use lib.Ieee.{Float, binary64, neg}
+use Rattle.num.specs.Literals.{one}
 use Rattle.stamps.specs.Write.{Write, adds, puts}
 
--- 1.0 and -1.0
-abbrev pub one : Float
-one = Ieee.ofBits binary64 0x3FF0000000000000
-
-abbrev pub minusOne : Float
-minusOne = neg one
+-- -1.0, as the Rust's minus sign makes it
+abbrev pub negOne : Float
+negOne = neg one
 
 -- Current: first node's right side minus the current, second's plus
 unfoldable pub currentWrites : ℕ → ℕ → ℕ → Float → List Write
@@ -31,11 +29,11 @@ resistorWrites a b value = conductanceWrites a b (Ieee.div binary64 one value)
 
 -- V, Vsin, Vpwl assign: right side of their row, then 1.0 at the first node, then -1.0 at the second, both in row and column
 unfoldable pub voltageWrites : ℕ → ℕ → ℕ → ℕ → Float → List Write
-voltageWrites n s a b v = puts s n v ∷ puts s a one ∷ puts a s one ∷ puts s b minusOne ∷ puts b s minusOne ∷ []
+voltageWrites n s a b v = puts s n v ∷ puts s a one ∷ puts a s one ∷ puts s b negOne ∷ puts b s negOne ∷ []
 
 -- Vcvs adds its branch current to the nodes, then its gain at the controls, then its nodes to its own row
 unfoldable pub vcvsWrites : ℕ → ℕ → ℕ → ℕ → ℕ → Float → List Write
-vcvsWrites s a b ca cb k = adds a s one ∷ adds b s minusOne ∷ adds s ca k ∷ adds s cb (neg k) ∷ adds s a minusOne ∷ adds s b one ∷ []
+vcvsWrites s a b ca cb k = adds a s one ∷ adds b s negOne ∷ adds s ca k ∷ adds s cb (neg k) ∷ adds s a negOne ∷ adds s b one ∷ []
 
 -- Vccs adds its gain at the controls, in the rows of its nodes
 unfoldable pub vccsWrites : ℕ → ℕ → ℕ → ℕ → Float → List Write

@@ -1,5 +1,4 @@
+-- What a stamp writes into a system. Read Write, then Kinds; `laws` holds what is proved of them.
 pub mod Write
 pub mod Kinds
-pub mod Laws
-pub mod Entry
-pub mod Cases
+pub mod laws

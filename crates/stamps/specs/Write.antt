@@ -7,10 +7,7 @@ use lib.ListN.{getD, set}
 use lib.Dec.{eqb, leb, ltb}
 use lib.Ieee as Ieee
 use lib.Ieee.{Float, nan, binary64}
-
--- the most rows that a system has
-abbrev pub largest : ℕ
-largest = 48
+use Rattle.numbers.specs.Limits.{mostUnknowns}
 
 -- what becomes of an entry: v is added, or v is assigned. A subtraction is the addition of the negated value: the same bits.
 pub data Change : Type 0 where
@@ -34,7 +31,7 @@ changed (assign v) x = v
 
 -- "Row and column 0 stay zero; entries for ground are skipped": the entry is neither ground's nor outside the system
 abbrev pub lands : ℕ → ℕ → ℕ → Bool
-lands n r c = not (eqb r 0) && (not (eqb c 0) && (ltb r n && (leb c n && leb n largest)))
+lands n r c = not (eqb r 0) && (not (eqb c 0) && (ltb r n && (leb c n && leb n mostUnknowns)))
 
 -- where an entry stands
 abbrev pub place : ℕ → Write → ℕ

@@ -4,9 +4,6 @@ ghost use mathlib.Core.Path.{_≡_};
 ghost use Rattle.stamps.specs.Write.{adds, puts, lands as landing, spotOf, written, stamped};
 ghost use Rattle.stamps.specs.Kinds.{currentWrites, conductanceWrites, resistorWrites, voltageWrites, vcvsWrites, vccsWrites, capacitorWrites, diodeWrites};
 
-// The most rows that a system has.
-pub const LARGEST: usize = 48;
-
 // A current i from a to b.
 pub fn stamp_current(m: &mut [f64], n: usize, a: usize, b: usize, i: f64)
     ensures { λ _. ⌜ now (m .exit) ≡ stamped n (currentWrites n a b i) (now (m .entry)) ⌝ }
@@ -138,5 +135,5 @@ fn lands(n: usize, r: usize, c: usize) -> bool
     if n < c {
         return false;
     }
-    n <= LARGEST
+    n <= numbers::limit::UNKNOWNS
 }

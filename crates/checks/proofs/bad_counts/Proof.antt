@@ -1,6 +1,5 @@
 use mathlib.Core.Path.{refl}
 use Rattle.checks.specs.Checks.{badCounts}
-use borrow.Author.Needs.{needs}
 use Rattle.checks.proofs.bad_counts.Statement.{statement}
 use Rattle.checks.proofs.bad_counts.Tie as tie
 

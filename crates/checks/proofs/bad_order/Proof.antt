@@ -1,6 +1,5 @@
 use mathlib.Core.Path.{sym}
-use Rattle.checks.specs.Checks.{order-above, order-below}
-use borrow.Author.Needs.{needs}
+use Rattle.checks.specs.laws.Checks.{order-above, order-below}
 use Rattle.checks.proofs.bad_order.Statement.{statement}
 use Rattle.checks.proofs.bad_order.Tie as tie
 

@@ -1,4 +1,3 @@
-use mathlib.Core.Path.{_≡_, sym, _∙_}
 use borrow.Author.Tests.{eq-eqb, ne-eqb}
 use Rattle.checks.specs.Checks.{checkedOf}
 use borrow.Author.Needs.{needs}

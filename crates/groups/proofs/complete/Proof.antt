@@ -1,5 +1,4 @@
 -- `groups::complete` meets its contract: one group after the other. Assumes nothing.
-use mathlib.Core.Path.{_∙_}
 use borrow.Author.Needs.{needs}
 use Rattle.groups.specs.Stamping.{completed}
 use Rattle.groups.proofs.complete.Statement.{statement}

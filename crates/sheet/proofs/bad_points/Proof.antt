@@ -1,6 +1,5 @@
 use mathlib.Core.Path.{refl}
 use Rattle.sheet.specs.Check.{badPoints}
-use borrow.Author.Needs.{needs}
 use Rattle.sheet.proofs.bad_points.Statement.{statement}
 use Rattle.sheet.proofs.bad_points.Tie as tie
 

@@ -1,6 +1,5 @@
 use mathlib.Core.Path.{refl}
 use Rattle.sheet.specs.Check.{badSheet}
-use borrow.Author.Needs.{needs}
 use Rattle.sheet.proofs.bad_sheet.Statement.{statement}
 use Rattle.sheet.proofs.bad_sheet.Tie as tie
 

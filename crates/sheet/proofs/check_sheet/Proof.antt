@@ -8,12 +8,11 @@ use borrow.Author.Tests.{eq-eqb, ne-eqb}
 use lib.Dec.{eqb}
 use Rattle.sheet.specs.Record.{recordAt, decodeOf}
 use Rattle.sheet.specs.Range.{elementFault}
-use Rattle.sheet.specs.Check.{checkFrom, checkOf, checkStep, refusalOf}
+use Rattle.sheet.specs.Check.{checkFrom, checkOf, checkStep, recordRefusal}
 use Rattle.sheet.specs.declared.Element.{Element}
 use Rattle.sheet.specs.declared.Limits.{Limits}
 use Rattle.sheet.specs.declared.Decoded.{Decoded}
 use Rattle.sheet.specs.declared.Decoded.the-variants.{Good, Refused}
-use Rattle.sheet.specs.declared.Checked.{Checked}
 use Rattle.sheet.specs.declared.Checked.the-variants.{Faulty}
 use borrow.Author.Needs.{needs}
 use Rattle.sheet.proofs.check_sheet.Statement.{statement}
@@ -52,7 +51,7 @@ returns c =
     let s = c .before .before .before .before .before in
     let a = c .before .before .before .before .before .before .before .before .args in
     let told = c .before .enum-told .given .1 in
-    ap (λ (k : ℕ). Faulty k (s .loop .i)) (c .refusal .ensures ∙ ap refusalOf told)
+    ap (λ (k : ℕ). Faulty k (s .loop .i)) (c .refusal .ensures ∙ ap recordRefusal told)
     ∙ (sym (stops (a .sheet .now) (a .l) (s .before .records .result) (s .loop .i) (c .before .before .before .before .loop-test .taken) (c .before .before .before .element-at .ensures) told) ∙ s .loop .inv .1)
 
 returns-2 : tie.Need-returns-2 Inv-loop μ-loop

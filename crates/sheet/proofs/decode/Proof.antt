@@ -1,5 +1,5 @@
 use mathlib.Core.Path.{_∙_}
-use Rattle.sheet.specs.Record.{decode-own}
+use Rattle.sheet.specs.laws.Record.{decode-own}
 use borrow.Author.Needs.{needs}
 use Rattle.sheet.proofs.decode.Statement.{statement}
 use Rattle.sheet.proofs.decode.Tie as tie

@@ -3,7 +3,7 @@ use borrow.Author.Needs.{needs}
 use mathlib.Core.Path.{sym, _∙_}
 use native.Mathlib.Omega.{arith}
 use Rattle.stamps.specs.Write.{lands}
-use Rattle.stamps.specs.Laws.{landed, place-small}
+use Rattle.stamps.specs.laws.Write.{landed, place-small}
 use Rattle.stamps.proofs.spot.Statement.{statement}
 use Rattle.stamps.proofs.spot.Tie as tie
 

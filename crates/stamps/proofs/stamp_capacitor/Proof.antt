@@ -3,7 +3,7 @@ use borrow.Author.Needs.{needs}
 use mathlib.Core.Path.{sym, ap, _∙_}
 use Rattle.stamps.specs.Write.{stamped}
 use Rattle.stamps.specs.Kinds.{capacitorWrites}
-use Rattle.stamps.specs.Laws.{joined}
+use Rattle.stamps.specs.laws.Write.{joined}
 use Rattle.stamps.proofs.stamp_capacitor.Statement.{statement}
 use Rattle.stamps.proofs.stamp_capacitor.Tie as tie
 

@@ -3,7 +3,7 @@ use borrow.Author.Needs.{needs}
 use mathlib.Core.Path.{sym, ap, _∙_}
 use Rattle.stamps.specs.Write.{stamped}
 use Rattle.stamps.specs.Kinds.{diodeWrites}
-use Rattle.stamps.specs.Laws.{joined}
+use Rattle.stamps.specs.laws.Write.{joined}
 use Rattle.stamps.proofs.stamp_diode.Statement.{statement}
 use Rattle.stamps.proofs.stamp_diode.Tie as tie
 

@@ -2,7 +2,7 @@
 use borrow.Author.Needs.{needs}
 use mathlib.Core.Path.{sym, _∙_}
 use Rattle.groups.specs.Diodes.{stampedOf}
-use Rattle.groups.proofs.Listing.{read-diode, no-diode}
+use Rattle.groups.specs.laws.Listed.{read-diode, no-diode}
 use Rattle.groups.proofs.diodes.diode_at.Statement.{statement}
 use Rattle.groups.proofs.diodes.diode_at.Tie as tie
 

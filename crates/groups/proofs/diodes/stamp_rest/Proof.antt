@@ -5,7 +5,7 @@ use native.Mathlib.Omega.{arith}
 use Prim.Native.Nat.{ℕ, _+_, _-_, _≤_}
 use lib.ListN.{length}
 use Rattle.loops.specs.Loop.{turns}
-use Rattle.loops.specs.Laws.{more}
+use Rattle.loops.specs.laws.Loop.{more}
 use Rattle.sheet.specs.Check.{recordsOf}
 use Rattle.groups.specs.Diodes.{Stamped, stampedOf, biasedAt}
 use Rattle.groups.specs.Listed.{restAt}

@@ -1,7 +1,7 @@
 -- `groups::records::record_in` meets its contract: by the two tests on the kind byte. Assumes nothing.
 use borrow.Author.Needs.{needs}
 use borrow.Author.Tests.{lt-ltb, le-ltb}
-use Rattle.groups.specs.Passing.{recordIn}
+use Rattle.groups.specs.Records.{recordIn}
 use Rattle.groups.proofs.records.record_in.Statement.{statement}
 use Rattle.groups.proofs.records.record_in.Tie as tie
 

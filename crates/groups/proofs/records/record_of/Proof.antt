@@ -1,8 +1,9 @@
 -- `groups::records::record_of` meets its contract: by the test on the kind byte. Assumes nothing.
 use borrow.Author.Needs.{needs}
 use mathlib.Core.Path.{sym, _∙_}
-use Rattle.sheet.specs.Record.{decode-own}
-use Rattle.groups.specs.Passing.{recordIn, apart, itself}
+use Rattle.sheet.specs.laws.Record.{decode-own}
+use Rattle.groups.specs.Records.{recordIn}
+use Rattle.groups.specs.laws.Passing.{apart, itself}
 use Rattle.groups.proofs.records.record_of.Statement.{statement}
 use Rattle.groups.proofs.records.record_of.Tie as tie
 

@@ -3,8 +3,8 @@ use borrow.Author.Needs.{needs}
 use mathlib.Core.Path.{_∙_}
 use borrow.Author.Tests.{eq-eqb, ne-eqb}
 use Rattle.groups.specs.Sources.{drivenAt, driven, drivenOf}
-use Rattle.groups.specs.Passing.{in-group}
-use Rattle.groups.specs.Quiet.{quiet-driven}
+use Rattle.groups.specs.laws.Passing.{in-group}
+use Rattle.groups.specs.laws.Quiet.{quiet-driven}
 use Rattle.groups.proofs.sources.source_at.Statement.{statement}
 use Rattle.groups.proofs.sources.source_at.Tie as tie
 

@@ -3,7 +3,7 @@ use borrow.Author.Needs.{needs}
 use mathlib.Core.Path.{refl}
 use mathlib.Core.List.{[], _∷_}
 use Rattle.groups.specs.Sources.{driven}
-use Rattle.groups.specs.Quiet.{quiet-driven}
+use Rattle.groups.specs.laws.Quiet.{quiet-driven}
 use Rattle.groups.proofs.Tags.{other-kind}
 use Rattle.groups.proofs.sources.source_one.Statement.{statement}
 use Rattle.groups.proofs.sources.source_one.Tie as tie

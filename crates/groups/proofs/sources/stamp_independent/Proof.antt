@@ -4,7 +4,7 @@ use mathlib.Core.Path.{_≡_, refl, _∙_}
 use Prim.Native.Nat.{_-_, _≤_}
 use lib.ListN.{length}
 use Rattle.loops.specs.Loop.{turns}
-use Rattle.loops.specs.Laws.{more, done}
+use Rattle.loops.specs.laws.Loop.{more, done}
 use Rattle.groups.specs.Sources.{Driven, drivenOf, drivenAt, independentOf}
 use Rattle.groups.proofs.sources.stamp_independent.Statement.{statement}
 use Rattle.groups.proofs.sources.stamp_independent.Tie as tie

@@ -3,7 +3,8 @@ use mathlib.Core.Bool.{Bool, true, false, cond}
 use lib.Ieee.{Float, lt, le}
 use borrow.Author.Needs.{needs}
 use Rattle.num.specs.Floats.{absoluteOf}
-use Rattle.models.specs.Signs.{_⊖_, _⊗_, two}
+use Rattle.models.specs.Signs.{_⊖_, _⊗_}
+use Rattle.num.specs.Literals.{two}
 use Rattle.models.specs.Diode.{limited}
 use Rattle.models.proofs.diode.limit.Statement.{statement}
 use Rattle.models.proofs.diode.limit.Tie as tie

@@ -1,5 +1,4 @@
 use borrow.Author.Tests.{not-true, not-false}
-use borrow.Author.Needs.{needs}
 use Rattle.sheet.proofs.range.lowest.Statement.{statement}
 use Rattle.sheet.proofs.range.lowest.Tie as tie
 

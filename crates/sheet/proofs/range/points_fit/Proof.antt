@@ -1,4 +1,3 @@
-use Prim.Native.Nat.{ℕ}
 use mathlib.Core.Path.{_≡_, refl, sym}
 use mathlib.Core.List.{[], _∷_}
 use borrow.Author.Tests.{le-leb}

@@ -1,0 +1,2 @@
+-- What is computed from the definitions.
+pub mod Cases

@@ -1,0 +1,4 @@
+-- What is proved of writes, and two systems worked out.
+pub mod Write
+pub mod Entry
+pub mod Cases

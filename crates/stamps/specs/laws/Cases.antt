@@ -1,0 +1,33 @@
+-- Two systems worked out by computing the definitions: the base of case b, and a source between equal nodes. Assumes nothing.
+use mathlib.Core.Path.{_≡_, refl}
+use mathlib.Core.List.{[], _∷_, _++_}
+use lib.ListN.{replicate}
+use lib.Ieee as Ieee
+use lib.Ieee.{Float, binary64, ofBits}
+use Rattle.stamps.specs.Write.{written, stamped}
+use Rattle.num.specs.Literals.{one, two, four}
+use Rattle.stamps.specs.Kinds.{negOne, conductanceWrites, resistorWrites, voltageWrites}
+
+abbrev z : Float
+z = ofBits binary64 0
+
+-- b: V 4 at 1, R 1 from 1 to 2, R 1 from 2 to 0
+case-b :
+    stamped 4 (voltageWrites 4 3 1 0 four ++ (resistorWrites 1 2 one ++ resistorWrites 2 0 one)) (replicate 20 z)
+    ≡ z ∷ z ∷ z ∷ z ∷ z
+    ∷ z ∷ one ∷ negOne ∷ one ∷ z
+    ∷ z ∷ negOne ∷ two ∷ z ∷ z
+    ∷ z ∷ one ∷ z ∷ z ∷ four
+    ∷ []
+unfolding stamped written voltageWrites conductanceWrites Ieee.ofBits Ieee.ofFields Ieee.odd Ieee.neg Ieee.add Ieee.div Ieee.sum Ieee.round Ieee.units Ieee.size Ieee.span Ieee.climb
+case-b = refl
+
+-- "Equal nodes leave -1.0"
+equal-nodes :
+    stamped 3 (voltageWrites 3 2 1 1 four) (replicate 12 z)
+    ≡ z ∷ z ∷ z ∷ z
+    ∷ z ∷ z ∷ negOne ∷ z
+    ∷ z ∷ negOne ∷ z ∷ four
+    ∷ []
+unfolding stamped written voltageWrites
+equal-nodes = refl
