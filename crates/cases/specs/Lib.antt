@@ -1,1 +1,2 @@
-pub mod Cases
+-- No definitions: `laws` has the bench's cases, computed.
+pub mod laws

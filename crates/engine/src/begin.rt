@@ -1,13 +1,14 @@
 // The buffers as a run begins: the base matrix stamped, zeros for the vectors and the system, and each diode's memory at 0.0.
 ghost use mathlib.Core.Path.{_≡_};
+ghost use mathlib.Core.List.{[]};
 ghost use Prim.Native.Nat.{_<_};
 ghost use lib.ListN.{length};
 ghost use Rattle.loops.specs.Loop.{zerosLike};
 ghost use Rattle.groups.specs.Stamping.{baseOf};
-ghost use Rattle.engine.specs.Begin.{forgotten, forgetAt, begunOf};
-
-// The kind of a diode's record.
-const DIODE: u8 = 4;
+ghost use Rattle.steps.specs.Counters.{started};
+ghost use Rattle.machine.specs.State.{buffersOf, stateOf};
+ghost use Rattle.engine.specs.Begin.{forgotten, forgetAt};
+use numbers::kind::DIODE;
 
 // Makes every buffer what it is before the first pass.
 pub fn begin(
@@ -19,7 +20,11 @@ pub fn begin(
     vector: &mut [f64],
     memory: &mut [f64],
 )
-    ensures { λ _. ⌜ begunOf (now (base .exit)) (now (accepted .exit)) (now (system .exit)) (now (vector .exit)) (now (memory .exit)) ≡ begunOf (baseOf nodes (length (now (vector .entry))) (now (sheet .entry)) (now (base .entry))) (zerosLike (now (accepted .entry))) (zerosLike (now (system .entry))) (zerosLike (now (vector .entry))) (forgotten (now (sheet .entry)) (now (memory .entry))) ⌝ }
+    ensures { λ _. ⌜
+        stateOf started (now (accepted .exit)) (buffersOf (now (base .exit)) (now (system .exit)) (now (vector .exit)) (now (memory .exit)) [])
+        ≡ stateOf started (zerosLike (now (accepted .entry))) (buffersOf (baseOf nodes (length (now (vector .entry))) (now (sheet .entry)) (now (base .entry)))
+        (zerosLike (now (system .entry))) (zerosLike (now (vector .entry))) (forgotten (now (sheet .entry)) (now (memory .entry))) [])
+        ⌝ }
 {
     groups::stamp_base(sheet, nodes, vector.len(), base);
     loops::fill(accepted, 0.0);

@@ -1,5 +1,5 @@
-// The engine's two public analyses. Each refuses and changes nothing, or runs within its budget and ends with one verdict; what it answers and what stands in every lent buffer
-// afterwards is the definition `runOf` in specs/Engine.antt, for all input.
+// The engine's two public analyses. Each refuses and changes nothing, or runs within its budget and ends with one verdict. The answer and the buffers are `runOf` of the call
+// (specs/Engine.antt), for all input; the elimination matrix is scratch.
 mod begin;
 mod told;
 mod work;
@@ -7,11 +7,12 @@ mod work;
 ghost use mathlib.Core.Path.{_≡_};
 ghost use mathlib.Core.Bool.{true, false};
 ghost use mathlib.Core.List.{[]};
-ghost use Rattle.engine.specs.Engine.{sizesOf, runOf, Scratched};
-ghost use Rattle.engine.specs.Result.{resultOf};
+ghost use Rattle.machine.specs.State.{buffersOf};
+ghost use Rattle.engine.specs.Engine.{callOf, resultOf, runOf, Scratched};
 use checks::Sizes;
 use options::Options;
 use sheet::Checked;
+use steps::Job;
 
 // How a run ended: its verdict, the verdict of its DC part, the passes solved, the rows written and the time reached.
 pub struct Ending {
@@ -41,17 +42,27 @@ pub fn dc_operating_point(
     vector: &mut [f64],
     memory: &mut [f64],
 ) -> Outcome
-    ensures all { λ r. ⌜ resultOf r (now (base .exit)) (now (system .exit)) (now (vector .exit)) (now (memory .exit)) [] ≡ runOf o (sizesOf false nodes sources (now (sheet .entry)) (now (points .entry)) (now (base .entry)) (now (system .entry)) (now (elimination .entry)) (now (vector .entry)) (now (memory .entry)) []) (now (sheet .entry)) (now (points .entry)) (now (base .entry)) (now (system .entry)) (now (vector .entry)) (now (memory .entry)) [] ⌝ }
-    ensures scratch { λ r. ⌜ Scratched o (sizesOf false nodes sources (now (sheet .entry)) (now (points .entry)) (now (base .entry)) (now (system .entry)) (now (elimination .entry)) (now (vector .entry)) (now (memory .entry)) []) (now (sheet .entry)) (now (elimination .entry)) (now (elimination .exit)) ⌝ }
+    ensures all { λ r. ⌜
+        resultOf r (buffersOf (now (base .exit)) (now (system .exit)) (now (vector .exit)) (now (memory .exit)) [])
+        ≡ runOf (callOf o false nodes sources (now (sheet .entry)) (now (points .entry)) (now (elimination .entry))
+        (buffersOf (now (base .entry)) (now (system .entry)) (now (vector .entry)) (now (memory .entry)) []))
+        ⌝ }
+    ensures scratch { λ r. ⌜
+        Scratched (callOf o false nodes sources (now (sheet .entry)) (now (points .entry)) (now (elimination .entry))
+        (buffersOf (now (base .entry)) (now (system .entry)) (now (vector .entry)) (now (memory .entry)) [])) (now (elimination .exit))
+        ⌝ }
 {
-    let mut none = loops::cells();
+    let mut none = [0.0];
+    let j = Job {
+        options: o,
+        nodes,
+        transient: false,
+    };
     analysis(
+        j,
+        sources,
         sheet,
         points,
-        nodes,
-        sources,
-        o,
-        false,
         base,
         system,
         elimination,
@@ -75,16 +86,26 @@ pub fn transient_analysis(
     memory: &mut [f64],
     rows: &mut [f64],
 ) -> Outcome
-    ensures all { λ r. ⌜ resultOf r (now (base .exit)) (now (system .exit)) (now (vector .exit)) (now (memory .exit)) (now (rows .exit)) ≡ runOf o (sizesOf true nodes sources (now (sheet .entry)) (now (points .entry)) (now (base .entry)) (now (system .entry)) (now (elimination .entry)) (now (vector .entry)) (now (memory .entry)) (now (rows .entry))) (now (sheet .entry)) (now (points .entry)) (now (base .entry)) (now (system .entry)) (now (vector .entry)) (now (memory .entry)) (now (rows .entry)) ⌝ }
-    ensures scratch { λ r. ⌜ Scratched o (sizesOf true nodes sources (now (sheet .entry)) (now (points .entry)) (now (base .entry)) (now (system .entry)) (now (elimination .entry)) (now (vector .entry)) (now (memory .entry)) (now (rows .entry))) (now (sheet .entry)) (now (elimination .entry)) (now (elimination .exit)) ⌝ }
+    ensures all { λ r. ⌜
+        resultOf r (buffersOf (now (base .exit)) (now (system .exit)) (now (vector .exit)) (now (memory .exit)) (now (rows .exit)))
+        ≡ runOf (callOf o true nodes sources (now (sheet .entry)) (now (points .entry)) (now (elimination .entry))
+        (buffersOf (now (base .entry)) (now (system .entry)) (now (vector .entry)) (now (memory .entry)) (now (rows .entry))))
+        ⌝ }
+    ensures scratch { λ r. ⌜
+        Scratched (callOf o true nodes sources (now (sheet .entry)) (now (points .entry)) (now (elimination .entry))
+        (buffersOf (now (base .entry)) (now (system .entry)) (now (vector .entry)) (now (memory .entry)) (now (rows .entry)))) (now (elimination .exit))
+        ⌝ }
 {
+    let j = Job {
+        options: o,
+        nodes,
+        transient: true,
+    };
     analysis(
+        j,
+        sources,
         sheet,
         points,
-        nodes,
-        sources,
-        o,
-        true,
         base,
         system,
         elimination,
@@ -96,12 +117,10 @@ pub fn transient_analysis(
 
 // Either analysis: the checks in their order, then the work on parts of the very lengths.
 fn analysis(
+    j: Job,
+    sources: usize,
     sheet: &[u8],
     points: &[u8],
-    nodes: usize,
-    sources: usize,
-    o: Options,
-    transient: bool,
     base: &mut [f64],
     system: &mut [f64],
     elimination: &mut [f64],
@@ -109,11 +128,18 @@ fn analysis(
     memory: &mut [f64],
     rows: &mut [f64],
 ) -> Outcome
-    ensures all { λ r. ⌜ resultOf r (now (base .exit)) (now (system .exit)) (now (vector .exit)) (now (memory .exit)) (now (rows .exit)) ≡ runOf o (sizesOf transient nodes sources (now (sheet .entry)) (now (points .entry)) (now (base .entry)) (now (system .entry)) (now (elimination .entry)) (now (vector .entry)) (now (memory .entry)) (now (rows .entry))) (now (sheet .entry)) (now (points .entry)) (now (base .entry)) (now (system .entry)) (now (vector .entry)) (now (memory .entry)) (now (rows .entry)) ⌝ }
-    ensures scratch { λ r. ⌜ Scratched o (sizesOf transient nodes sources (now (sheet .entry)) (now (points .entry)) (now (base .entry)) (now (system .entry)) (now (elimination .entry)) (now (vector .entry)) (now (memory .entry)) (now (rows .entry))) (now (sheet .entry)) (now (elimination .entry)) (now (elimination .exit)) ⌝ }
+    ensures all { λ r. ⌜
+        resultOf r (buffersOf (now (base .exit)) (now (system .exit)) (now (vector .exit)) (now (memory .exit)) (now (rows .exit)))
+        ≡ runOf (callOf (j .options) (j .transient) (j .nodes) sources (now (sheet .entry)) (now (points .entry)) (now (elimination .entry))
+        (buffersOf (now (base .entry)) (now (system .entry)) (now (vector .entry)) (now (memory .entry)) (now (rows .entry))))
+        ⌝ }
+    ensures scratch { λ r. ⌜
+        Scratched (callOf (j .options) (j .transient) (j .nodes) sources (now (sheet .entry)) (now (points .entry)) (now (elimination .entry))
+        (buffersOf (now (base .entry)) (now (system .entry)) (now (vector .entry)) (now (memory .entry)) (now (rows .entry)))) (now (elimination .exit))
+        ⌝ }
 {
     let z = Sizes {
-        nodes,
+        nodes: j.nodes,
         sources,
         sheet: sheet.len(),
         points: points.len(),
@@ -123,19 +149,17 @@ fn analysis(
         vector: vector.len(),
         memory: memory.len(),
         rows: rows.len(),
-        transient,
+        transient: j.transient,
     };
-    let f = checks::check(o, z, sheet);
+    let f = checks::check(j.options, z, sheet);
     let Checked::Clean = f else {
         return told::refused(f);
     };
-    let n = nodes + sources;
+    let n = j.nodes + sources;
     let cells = n * (n + 1);
     let records = sheet.len() / sheet::RECORD;
     let c = work::run_in(
-        o,
-        nodes,
-        transient,
+        j,
         sheet,
         points,
         &mut base[..cells],

@@ -4,7 +4,7 @@ use super::Outcome;
 use sheet::Checked;
 use steps::Counters;
 ghost use mathlib.Core.Path.{_≡_};
-ghost use Rattle.engine.specs.Result.{endingOf, refusedOf};
+ghost use Rattle.engine.specs.Engine.{endingOf, refusedOf};
 
 // The answer of a run that ended, or whose budget did.
 pub fn ended(c: Counters) -> Outcome

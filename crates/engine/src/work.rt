@@ -1,18 +1,16 @@
 // The work of a run on buffers of the very lengths: it begins, and runs by its budget.
 use super::begin::begin;
-use options::Options;
 use steps::Counters;
+use steps::Job;
 ghost use mathlib.Core.Path.{_≡_};
-ghost use Prim.Native.Nat.{_+_, _*_, _≤_, _<_};
 ghost use lib.ListN.{length};
-ghost use Rattle.machine.specs.State.{stateOf};
-ghost use Rattle.engine.specs.Work.{Fit, endOf, baseOn, workedOf, ran, ranOf};
+ghost use Rattle.machine.specs.State.{buffersOf, stateOf};
+ghost use Rattle.passes.specs.Attempt.{circuitOf};
+ghost use Rattle.engine.specs.Work.{Fit, endOf, handoverOf, handover};
 
 // The run, with the accepted vector in an array of its own.
 pub fn run_in(
-    o: Options,
-    nodes: usize,
-    transient: bool,
+    j: Job,
     sheet: &[u8],
     points: &[u8],
     base: &mut [f64],
@@ -23,14 +21,15 @@ pub fn run_in(
     rows: &mut [f64],
 ) -> Counters
     requires { ⌜ Fit (length (now vector)) (length (now base)) (length (now elimination)) (length (now system)) ⌝ }
-    ensures { λ r. ⌜ ranOf r (now (base .exit)) (now (system .exit)) (now (vector .exit)) (now (memory .exit)) (now (rows .exit)) ≡ ran (baseOn nodes (length (now (vector .entry))) (now (sheet .entry))) (endOf o nodes transient (now (sheet .entry)) (now (points .entry)) (length (now (vector .entry))) (now (memory .entry)) (now (rows .entry))) ⌝ }
+    ensures { λ r. ⌜
+        handoverOf r (buffersOf (now (base .exit)) (now (system .exit)) (now (vector .exit)) (now (memory .exit)) (now (rows .exit)))
+        ≡ handover (endOf (circuitOf j (length (now (vector .entry))) (now (sheet .entry)) (now (points .entry))) (now (memory .entry)) (now (rows .entry)))
+        ⌝ }
 {
     let n = vector.len();
     let mut a = loops::cells();
     work(
-        o,
-        nodes,
-        transient,
+        j,
         sheet,
         points,
         base,
@@ -45,9 +44,7 @@ pub fn run_in(
 
 // The same with the accepted vector lent.
 fn work(
-    o: Options,
-    nodes: usize,
-    transient: bool,
+    j: Job,
     sheet: &[u8],
     points: &[u8],
     base: &mut [f64],
@@ -60,15 +57,15 @@ fn work(
 ) -> Counters
     requires { ⌜ Fit (length (now vector)) (length (now base)) (length (now elimination)) (length (now system)) ⌝ }
     requires { ⌜ length (now accepted) ≡ length (now vector) ⌝ }
-    ensures { λ r. ⌜ workedOf (now (base .exit)) (stateOf r (now (accepted .exit)) (now (system .exit)) (now (vector .exit)) (now (memory .exit)) (now (rows .exit))) ≡ workedOf (baseOn nodes (length (now (vector .entry))) (now (sheet .entry))) (endOf o nodes transient (now (sheet .entry)) (now (points .entry)) (length (now (vector .entry))) (now (memory .entry)) (now (rows .entry))) ⌝ }
+    ensures { λ r. ⌜
+        stateOf r (now (accepted .exit)) (buffersOf (now (base .exit)) (now (system .exit)) (now (vector .exit)) (now (memory .exit)) (now (rows .exit)))
+        ≡ endOf (circuitOf j (length (now (vector .entry))) (now (sheet .entry)) (now (points .entry))) (now (memory .entry)) (now (rows .entry))
+        ⌝ }
 {
-    begin(sheet, nodes, base, accepted, system, vector, memory);
+    begin(sheet, j.nodes, base, accepted, system, vector, memory);
     passes::run(
-        o,
-        nodes,
-        transient,
+        j,
         steps::started(),
-        o.budget,
         sheet,
         points,
         base,

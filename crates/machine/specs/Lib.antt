@@ -1,7 +1,4 @@
+-- The run as a machine of passes. Read State, then Machine; `laws` holds what is proved of them.
 pub mod State
 pub mod Machine
-pub mod Budget
-pub mod Kept
-pub mod OneVerdict
-pub mod Units
-pub mod Rows
+pub mod laws

@@ -10,12 +10,14 @@ use Rattle.loops.specs.Loop.{zerosLike, rowAt}
 use Rattle.options.specs.declared.Options.{Options}
 use Rattle.convergence.specs.Convergence.{convergenceOf}
 use Rattle.steps.specs.declared.Counters.{Counters}
+use Rattle.steps.specs.declared.Job.{Job}
 use Rattle.steps.specs.declared.Report.{Report}
 use Rattle.steps.specs.declared.Report.the-variants.{Yes, No, Error, Diode, Sine}
-use Rattle.steps.specs.Verdicts.{diode, noRoom, dcPhase, transientPhase}
+use Rattle.numbers.specs.Verdicts.{diodeCurrent, noRoom}
+use Rattle.steps.specs.Phases.{dcPhase, transientPhase}
 use Rattle.steps.specs.Counters.{ended, written}
 use Rattle.steps.specs.Control.{reportOf, dcAfter, stepAfter, rowDue}
-use Rattle.machine.specs.State.{State, stateOf, Job, Attempt, Tried, triedOf, Written, writtenOf}
+use Rattle.machine.specs.State.{Buffers, buffersOf, State, stateOf, Attempt, Tried, triedOf, Written, writtenOf}
 
 -- ---- stamp, solve, compare
 
@@ -25,22 +27,19 @@ before first v = cond first (zerosLike v) v
 
 -- a stamp that failed reports its own failure, and else the convergence check speaks
 abbrev pub reported : ℕ → Report → Report
-reported fault check = cond (eqb fault 0) check (cond (eqb fault diode) Diode Sine)
+reported fault check = cond (eqb fault 0) check (cond (eqb fault diodeCurrent) Diode Sine)
 
-unfoldable pub tried : Attempt → Options → ℕ → Counters → List Float → List Float → List Float → List Float → Tried
-tried f o nodes c accepted system vector memory =
-    let a = f c accepted system vector memory in
+unfoldable pub tried : Attempt → Job → Counters → List Float → Buffers → Tried
+tried f j c accepted x =
+    let a = f c accepted x in
     triedOf
-    (reported (a .fault) (reportOf (convergenceOf (a .vector) (before (c .first) vector) nodes o)))
+    (reported (a .fault) (reportOf (convergenceOf (a .vector) (before (c .first) (x .vector)) (j .nodes) (j .options))))
     (a .system)
     (a .vector)
     (a .memory)
 
-abbrev pub triedAt : Attempt → Options → ℕ → State → Tried
-triedAt f o nodes s = tried f o nodes (s .counters) (s .accepted) (s .system) (s .vector) (s .memory)
-
 abbrev pub triedBy : Attempt → Job → State → Tried
-triedBy f j s = triedAt f (j .options) (j .nodes) s
+triedBy f j s = tried f j (s .counters) (s .accepted) (s .buffers)
 
 -- ---- rows: a row is time, then N numbers
 
@@ -58,16 +57,16 @@ landed o c v rows = cond (rowDue o (c .time)) (writtenBy c v rows) (writtenOf c 
 
 -- ---- one pass
 
--- the state after a pass: what is accepted, what was tried, what was written
-abbrev pub after : List Float → Tried → Written → State
-after accepted t w = stateOf (w .counters) accepted (t .system) (t .vector) (t .memory) (w .rows)
+-- the state after a pass from the state s: what is accepted, what was tried, what was written
+abbrev pub after : State → List Float → Tried → Written → State
+after s accepted t w = stateOf (w .counters) accepted (buffersOf (s .buffers .base) (t .system) (t .vector) (t .memory) (w .rows))
 
 -- DC: where the transient begins, the first row is the DC vector at 0
 unfoldable pub dcPass : Attempt → Job → State → State
 dcPass f j s =
     let t = triedBy f j s in
     let c = dcAfter (j .options) (j .transient) (t .report) (s .counters) in
-    after (s .accepted) t (cond (eqb (c .phase) transientPhase) (writtenBy c (t .vector) (s .rows)) (writtenOf c (s .rows)))
+    after s (s .accepted) t (cond (eqb (c .phase) transientPhase) (writtenBy c (t .vector) (s .buffers .rows)) (writtenOf c (s .buffers .rows)))
 
 abbrev pub accepts : Report → Bool
 accepts Yes = true
@@ -77,19 +76,19 @@ accepts Diode = false
 accepts Sine = false
 
 -- transient: where a step is accepted, its vector is kept, and the new time may get a row
-unfoldable pub stepPass : Attempt → Options → ℕ → State → State
-stepPass f o nodes s =
-    let t = triedAt f o nodes s in
-    let c = stepAfter o (t .report) (s .counters) in
+unfoldable pub stepPass : Attempt → Job → State → State
+stepPass f j s =
+    let t = triedBy f j s in
+    let c = stepAfter (j .options) (t .report) (s .counters) in
     cond (accepts (t .report))
-    (after (t .vector) t (landed o c (t .vector) (s .rows)))
-    (after (s .accepted) t (writtenOf c (s .rows)))
+    (after s (t .vector) t (landed (j .options) c (t .vector) (s .buffers .rows)))
+    (after s (s .accepted) t (writtenOf c (s .buffers .rows)))
 
 -- one unit of budget: a pass of DC or of the transient; an ended run stays as it is
 unfoldable pub pass : Attempt → Job → State → State
 pass f j s =
     cond (eqb (s .counters .phase) dcPhase) (dcPass f j s)
-    (cond (eqb (s .counters .phase) transientPhase) (stepPass f (j .options) (j .nodes) s)
+    (cond (eqb (s .counters .phase) transientPhase) (stepPass f j s)
     s)
 
 -- ---- the run of a budget

@@ -1,16 +1,14 @@
 -- What a run carries from pass to pass, and what stamping and solving give it. Clients cite all of it.
 use Prim.Native.Nat.{ℕ}
-use mathlib.Core.Bool.{Bool}
 use mathlib.Core.List.{List}
 use lib.Ieee.{Float}
-use Rattle.options.specs.declared.Options.{Options}
 use Rattle.steps.specs.declared.Counters.{Counters}
 use Rattle.steps.specs.declared.Report.{Report}
 
-pub record State : Type 0 where
-  pub counters : Counters
-  -- the last accepted vector, at which storage elements look
-  pub accepted : List Float
+-- the buffers that a caller lends to a run, and in which its results stand. The elimination matrix is not among them: it is scratch.
+pub record Buffers : Type 0 where
+  -- what every pass is stamped over; no pass changes it
+  pub base : List Float
   -- the last system stamped whole, before elimination
   pub system : List Float
   -- the last solved vector
@@ -19,17 +17,17 @@ pub record State : Type 0 where
   pub memory : List Float
   pub rows : List Float
 
-abbrev pub stateOf : Counters → List Float → List Float → List Float → List Float → List Float → State
-stateOf c a s v m r = record { counters = c; accepted = a; system = s; vector = v; memory = m; rows = r }
+abbrev pub buffersOf : List Float → List Float → List Float → List Float → List Float → Buffers
+buffersOf b s v m r = record { base = b; system = s; vector = v; memory = m; rows = r }
 
--- what the control reads, and no pass changes
-pub record Job : Type 0 where
-  pub options : Options
-  pub nodes : ℕ
-  pub transient : Bool
+pub record State : Type 0 where
+  pub counters : Counters
+  -- the last accepted vector, at which storage elements look
+  pub accepted : List Float
+  pub buffers : Buffers
 
-abbrev pub jobOf : Options → ℕ → Bool → Job
-jobOf o n t = record { options = o; nodes = n; transient = t }
+abbrev pub stateOf : Counters → List Float → Buffers → State
+stateOf c a x = record { counters = c; accepted = a; buffers = x }
 
 -- stamping and solving: fault 0 if all was stamped and solved; 22 for a diode, else a sine was refused
 pub record Solved : Type 0 where
@@ -38,9 +36,9 @@ pub record Solved : Type 0 where
   pub vector : List Float
   pub memory : List Float
 
--- of stamping and solving the machine knows no more than this: what it makes of the counters, the accepted vector, the system, the vector and the memory
+-- of stamping and solving the machine knows no more than this: what it makes of the counters, the accepted vector and the buffers
 abbrev pub Attempt : Type 0
-Attempt = Counters → List Float → List Float → List Float → List Float → Solved
+Attempt = Counters → List Float → Buffers → Solved
 
 -- an attempt with the report on it
 pub record Tried : Type 0 where

@@ -1,12 +1,12 @@
-// The run as a machine of passes: its definition and its laws are in specs/. The code here writes the rows; stamping, solving and the passes are the engine's.
+// The run as a machine of passes: its definition and its laws are in specs/. The code here writes the rows; stamping, solving and the passes are in `passes`.
 // Every function here is total.
 ghost use mathlib.Core.Path.{_≡_};
 ghost use Rattle.machine.specs.State.{writtenOf};
 ghost use Rattle.machine.specs.Machine.{writtenBy, landed as landedOf, accepts as acceptsOf};
 use loops::put_row;
+use numbers::verdict::NO_ROOM;
 use options::Options;
 use steps::Counters;
-use steps::NO_ROOM;
 use steps::Report;
 use steps::ended;
 use steps::row_due;

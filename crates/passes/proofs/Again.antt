@@ -9,17 +9,19 @@ use lib.Ieee as Ieee
 use lib.Ieee.{Float, binary64}
 use Rattle.options.specs.declared.Options.{Options}
 use Rattle.steps.specs.declared.Counters.{Counters}
+use Rattle.steps.specs.declared.Job.{Job}
 use Rattle.steps.specs.declared.Report.{Report}
 use Rattle.steps.specs.declared.Report.the-variants.{Yes, No, Error, Diode, Sine}
-use Rattle.steps.specs.Verdicts.{settled, passesUsed, diverged, noRoom, transientPhase}
+use Rattle.numbers.specs.Verdicts.{settled, passesUsed, diverged, noRoom}
+use Rattle.steps.specs.Phases.{dcPhase, transientPhase}
 use Rattle.steps.specs.Counters.{counted, ended, again, withStep, written, going}
 use Rattle.steps.specs.Control.{dcOver, dcAfter, moved, shortened, stepAfter, rowDue}
-use Rattle.steps.specs.Laws.{solved}
+use Rattle.steps.specs.Control.{solved}
 use Rattle.machine.specs.State.{Written, writtenOf}
 use Rattle.machine.specs.Machine.{writtenBy, landed, accepts}
 use Rattle.passes.specs.Attempt.{Circuit}
 use Rattle.passes.specs.Again.{linearAt, alike, Holds}
-use Rattle.passes.specs.Done.{dcDone, stepDone}
+use Rattle.passes.specs.Done.{dcDone, stepDone, Aftermath, aftermathOf, aftermath}
 
 -- the same pass is stamped at both
 pub record Same (d c : Counters) : Type 0 where
@@ -27,9 +29,9 @@ pub record Same (d c : Counters) : Type 0 where
   pub time : d .time ≡ c .time
   pub step : d .step ≡ c .step
 
-pub moves : (k : Circuit) (linear : Bool) (d c : Counters) (a kept s v : List Float) → Same d c → Holds k linear c a kept s v → Holds k linear d a kept s v
-moves k linear d c a kept s v e h =
-    let q : linearAt k d a ≡ linearAt k c a = rw (e .phase, e .time, e .step) in
+pub moves : (k : Circuit) (d c : Counters) (a b held s v : List Float) → Same d c → Holds k c a b held s v → Holds k d a b held s v
+moves k d c a b held s v e h =
+    let q : linearAt k d a b ≡ linearAt k c a b = rw (e .phase, e .time, e .step) in
     record { whole = λ l. (q ∙ h .whole l .0, h .whole l .1); part = λ l. q ∙ h .part l }
 
 pub later : (c : Counters) → alike c ≡ true → c .first ≡ false
@@ -114,37 +116,49 @@ accepted-new o r c d w x rows z e y q g l = ⊎-elim (new (written d) refl refl)
     new : (v : Counters) → going d ≡ going v → alike d ≡ alike v → w ≡ v → ⊥
     new v a b p = false≢true (sym (step-alike o r c (ap going (sym e) ∙ (a ∙ (ap going (sym p) ∙ g))) (ap alike (sym e) ∙ (b ∙ (ap alike (sym p) ∙ l))) .0) ∙ y)
 
-module _ (k : Circuit) (linear : Bool) (o : Options) (r : Report) (c w : Counters) (a kept s v x rows z : List Float) (h : solved r ≡ true → Holds k linear c a kept s v) where
-  pub next-dc : (tr : Bool) → writtenOf w z ≡ dcDone o tr r c x rows → going w ≡ true → alike w ≡ true → Holds k linear w a kept s v
+module _ (k : Circuit) (j : Job) (r : Report) (c w : Counters) (a b held s v x rows z : List Float) (h : solved r ≡ true → Holds k c a b held s v) where
+  pub next-dc : writtenOf w z ≡ dcDone j r c x rows → going w ≡ true → alike w ≡ true → Holds k w a b held s v
   unfolding dcDone alike
-  next-dc tr e g l = go (eqb (dcAfter o tr r c .phase) transientPhase) e
+  next-dc e g l = go (eqb (dcAfter (j .options) (j .transient) r c .phase) transientPhase) e
     where
       d : Counters
-      d = dcAfter o tr r c
+      d = dcAfter (j .options) (j .transient) r c
 
-      same : going d ≡ true → alike d ≡ true → Holds k linear d a kept s v
+      same : going d ≡ true → alike d ≡ true → Holds k d a b held s v
       same g l =
-          let y = dc-alike o tr r c g (later d l) in
-          moves k linear d c a kept s v (y .1) (h (y .0))
+          let y = dc-alike (j .options) (j .transient) r c g (later d l) in
+          moves k d c a b held s v (y .1) (h (y .0))
 
-      go : (b : Bool) → writtenOf w z ≡ cond b (writtenBy d x rows) (writtenOf d rows) → Holds k linear w a kept s v
+      go : (q : Bool) → writtenOf w z ≡ cond q (writtenBy d x rows) (writtenOf d rows) → Holds k w a b held s v
       go true q =
           let p = write-going d w x rows z q g in
-          rw p (moves k linear (written d) d a kept s v (row-same d) (same (ap going (sym p) ∙ g) (ap alike (sym p) ∙ l)))
+          rw p (moves k (written d) d a b held s v (row-same d) (same (ap going (sym p) ∙ g) (ap alike (sym p) ∙ l)))
       go false q =
           let p : w ≡ d = ap (λ (t : Written). t .counters) q in
           rw p (same (ap going (sym p) ∙ g) (ap alike (sym p) ∙ l))
 
-  pub next-step : (b : List Float) → writtenOf w z ≡ stepDone o r c x rows → b ≡ cond (accepts r) x a → going w ≡ true → alike w ≡ true → Holds k linear w b kept s v
+  pub next-step : (n : List Float) → writtenOf w z ≡ stepDone j r c x rows → n ≡ cond (accepts r) x a → going w ≡ true → alike w ≡ true → Holds k w n b held s v
   unfolding stepDone
-  next-step b e t g l = go (accepts r) refl e t
+  next-step n e t g l = go (accepts r) refl e t
     where
       d : Counters
-      d = stepAfter o r c
+      d = stepAfter (j .options) r c
 
-      go : (y : Bool) → accepts r ≡ y → writtenOf w z ≡ cond y (landed o d x rows) (writtenOf d rows) → b ≡ cond y x a → Holds k linear w b kept s v
-      go true y q t = absurd (accepted-new o r c d w x rows z refl y q g l)
+      go : (y : Bool) → accepts r ≡ y → writtenOf w z ≡ cond y (landed (j .options) d x rows) (writtenOf d rows) → n ≡ cond y x a → Holds k w n b held s v
+      go true y q t = absurd (accepted-new (j .options) r c d w x rows z refl y q g l)
       go false y q t =
           let p : w ≡ d = ap (λ (t : Written). t .counters) q in
-          let n = step-alike o r c (ap going (sym p) ∙ g) (ap alike (sym p) ∙ l) in
-          rw (p, t) (moves k linear d c a kept s v (n .2) (h (n .1)))
+          let m = step-alike (j .options) r c (ap going (sym p) ∙ g) (ap alike (sym p) ∙ l) in
+          rw (p, t) (moves k d c a b held s v (m .2) (h (m .1)))
+
+  pub next-pass : (n : List Float) → aftermathOf w n z ≡ aftermath j r c a x rows → going w ≡ true → alike w ≡ true → Holds k w n b held s v
+  unfolding aftermath
+  next-pass n e g l = go (eqb (c .phase) dcPhase) e
+    where
+      go : (q : Bool)
+          → aftermathOf w n z ≡ cond q (aftermathOf (dcDone j r c x rows .counters) a (dcDone j r c x rows .rows)) (aftermathOf (stepDone j r c x rows .counters) (cond (accepts r) x a) (stepDone j r c x rows .rows))
+          → Holds k w n b held s v
+      go true q =
+          let en : n ≡ a = ap (λ (y : Aftermath). y .accepted) q in
+          rw en (next-dc (ap (λ (y : Aftermath). writtenOf (y .counters) (y .rows)) q) g l)
+      go false q = next-step n (ap (λ (y : Aftermath). writtenOf (y .counters) (y .rows)) q) (ap (λ (y : Aftermath). y .accepted) q) g l

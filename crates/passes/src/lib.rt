@@ -1,45 +1,47 @@
-// The run of a budget over lent buffers: the machine of passes at the real stamping and solving.
+// The run of a budget over lent buffers: the machine of passes at the real stamping and solving. It reads from the whole to its parts: a run lists its diodes, takes a matrix to
+// hold what is stamped before them, and makes pass after pass; a pass is an attempt (attempt.rt) and what follows it (follow).
 mod attempt;
 
 ghost use mathlib.Core.Path.{_≡_};
-ghost use mathlib.Core.Bool.{true, false, cond};
-ghost use Prim.Native.Nat.{_+_, _*_, _≤_};
+ghost use mathlib.Core.Bool.{cond};
+ghost use Rattle.numbers.specs.Limits.{mostRecords};
 ghost use lib.ListN.{length};
-ghost use Rattle.groups.specs.Diodes.{hasDiodes};
 ghost use Rattle.groups.specs.Listed.{Listed};
-ghost use Rattle.steps.specs.Counters.{going as goingOf};
-ghost use Rattle.machine.specs.State.{stateOf, jobOf, writtenOf};
-ghost use Rattle.machine.specs.Machine.{accepts as acceptsOf, pass as passOf, runFor};
+ghost use Rattle.machine.specs.State.{buffersOf, stateOf, writtenOf};
+ghost use Rattle.machine.specs.Machine.{accepts as acceptsOf, runFor};
 ghost use Rattle.passes.specs.Sized.{Sized, fits as fitsOf};
 ghost use Rattle.passes.specs.Attempt.{circuitOf, attemptOf};
-ghost use Rattle.passes.specs.Again.{alike as alikeOf, Usable, Holds};
-ghost use Rattle.passes.specs.Done.{dcDone, stepDone};
-ghost use Rattle.passes.specs.Run.{ranOf};
+ghost use Rattle.passes.specs.Again.{alike as alikeOf, Holder};
+ghost use Rattle.passes.specs.Done.{dcDone, stepDone, aftermathOf, aftermath};
+ghost use Rattle.passes.specs.Run.{runOn};
 use attempt::attempt;
-use groups::diodes::has_diodes;
 use groups::diodes::list_diodes;
-use loops::cells;
 use loops::copy;
 use machine::accepts;
 use machine::landed;
 use machine::write;
-use options::Options;
+use numbers::limit::RECORDS;
+use numbers::limit::UNKNOWNS;
 use steps::Counters;
 use steps::DC;
+use steps::Job;
 use steps::Report;
 use steps::TRANSIENT;
 use steps::dc_after;
 use steps::going;
 use steps::step_after;
 
-// At most `budget` passes from the counters c on, and the counters after them. Nothing happens where the lengths do not fit: N, the vector's, is 1 to 48,
+// The numbers of a matrix of order 16. A matrix that is held is cleared in each run, so that small circuits get a small one.
+const SMALL: usize = 272;
+
+// The numbers of a matrix of the largest order.
+const LARGE: usize = UNKNOWNS * (UNKNOWNS + 1);
+
+// The run from the counters c on, by the options' budget of passes, and the counters after it. Nothing happens where the lengths do not fit: N, the vector's, is 1 to 48,
 // the accepted vector is as long, and the matrices have N (N + 1) numbers.
 pub fn run(
-    o: Options,
-    nodes: usize,
-    transient: bool,
+    j: Job,
     c: Counters,
-    budget: u64,
     sheet: &[u8],
     points: &[u8],
     base: &[f64],
@@ -50,28 +52,30 @@ pub fn run(
     memory: &mut [f64],
     rows: &mut [f64],
 ) -> Counters
-    ensures { λ r. ⌜ stateOf r (now (accepted .exit)) (now (system .exit)) (now (vector .exit)) (now (memory .exit)) (now (rows .exit)) ≡ ranOf (fitsOf (length (now (vector .entry))) (length (now (accepted .entry))) (length (now (base .entry))) (length (now (elimination .entry))) (length (now (system .entry)))) (circuitOf o nodes (length (now (vector .entry))) (now (sheet .entry)) (now (points .entry)) (now (base .entry))) (jobOf o nodes transient) budget (stateOf c (now (accepted .entry)) (now (system .entry)) (now (vector .entry)) (now (memory .entry)) (now (rows .entry))) ⌝ }
+    ensures { λ r. ⌜
+        stateOf r (now (accepted .exit)) (buffersOf (now (base .entry)) (now (system .exit)) (now (vector .exit)) (now (memory .exit)) (now (rows .exit)))
+        ≡ runOn (length (now (elimination .entry))) (circuitOf j (length (now (vector .entry))) (now (sheet .entry)) (now (points .entry)))
+        (stateOf c (now (accepted .entry)) (buffersOf (now (base .entry)) (now (system .entry)) (now (vector .entry)) (now (memory .entry)) (now (rows .entry))))
+        ⌝ }
 {
-    if fits(
-        vector.len(),
-        accepted.len(),
-        base.len(),
-        elimination.len(),
-        system.len(),
-    ) {
-        let mut list = bytes();
-        let d = list_diodes(sheet, &mut list);
-        return run_fitting(
-            o,
-            nodes,
-            transient,
+    let n = vector.len();
+    let s = system.len();
+    if !fits(n, accepted.len(), base.len(), elimination.len(), s) {
+        return c;
+    }
+    let mut list = bytes();
+    let d = list_diodes(sheet, &mut list);
+    if (d == 0) & (sheet::records(sheet) <= RECORDS) {
+        let mut none = [0.0];
+        return run_passes(
+            j,
             c,
-            budget,
             sheet,
             &list[..d],
             points,
             base,
             accepted,
+            &mut none[..0],
             elimination,
             system,
             vector,
@@ -79,7 +83,20 @@ pub fn run(
             rows,
         );
     }
-    c
+    run_held(
+        j,
+        c,
+        sheet,
+        &list[..d],
+        points,
+        base,
+        accepted,
+        elimination,
+        system,
+        vector,
+        memory,
+        rows,
+    )
 }
 
 // Whether the lengths are those of a run.
@@ -89,7 +106,7 @@ fn fits(n: usize, accepted: usize, base: usize, elimination: usize, system: usiz
     if n < 1 {
         return false;
     }
-    if 48 < n {
+    if UNKNOWNS < n {
         return false;
     }
     if accepted != n {
@@ -105,13 +122,10 @@ fn fits(n: usize, accepted: usize, base: usize, elimination: usize, system: usiz
     system == size
 }
 
-// At most `budget` passes, with the diodes' places listed. With diodes, what is stamped before them is held for the passes that are stamped alike; without, the system is all.
-fn run_fitting(
-    o: Options,
-    nodes: usize,
-    transient: bool,
+// A run with diodes at `places`: a matrix holds what is stamped before them, for the passes that are stamped alike.
+fn run_held(
+    j: Job,
     c: Counters,
-    budget: u64,
     sheet: &[u8],
     places: &[u8],
     points: &[u8],
@@ -125,147 +139,39 @@ fn run_fitting(
 ) -> Counters
     requires sized { ⌜ Sized (length (now vector)) (length (now accepted)) (length (now base)) (length (now elimination)) (length (now system)) ⌝ }
     requires listed { ⌜ Listed (now sheet) (length (now places)) (now places) ⌝ }
-    ensures { λ r. ⌜ stateOf r (now (accepted .exit)) (now (system .exit)) (now (vector .exit)) (now (memory .exit)) (now (rows .exit)) ≡ runFor (attemptOf (circuitOf o nodes (length (now (vector .entry))) (now (sheet .entry)) (now (points .entry)) (now (base .entry)))) (jobOf o nodes transient) budget (stateOf c (now (accepted .entry)) (now (system .entry)) (now (vector .entry)) (now (memory .entry)) (now (rows .entry))) ⌝ }
-{
-    if has_diodes(sheet) {
-        return run_holding(
-            o,
-            nodes,
-            transient,
-            c,
-            budget,
-            sheet,
-            places,
-            points,
-            base,
-            accepted,
-            elimination,
-            system,
-            vector,
-            memory,
-            rows,
-        );
-    }
-    let mut none = cells();
-    turns(
-        o,
-        nodes,
-        transient,
-        c,
-        true,
-        budget,
-        sheet,
-        places,
-        points,
-        base,
-        accepted,
-        &mut none[..0],
-        elimination,
-        system,
-        vector,
-        memory,
-        rows,
-    )
-}
-
-// The same with diodes: the matrix to hold what is stamped before them is no larger than it need be, since it is cleared in each run.
-fn run_holding(
-    o: Options,
-    nodes: usize,
-    transient: bool,
-    c: Counters,
-    budget: u64,
-    sheet: &[u8],
-    places: &[u8],
-    points: &[u8],
-    base: &[f64],
-    accepted: &mut [f64],
-    elimination: &mut [f64],
-    system: &mut [f64],
-    vector: &mut [f64],
-    memory: &mut [f64],
-    rows: &mut [f64],
-) -> Counters
-    requires sized { ⌜ Sized (length (now vector)) (length (now accepted)) (length (now base)) (length (now elimination)) (length (now system)) ⌝ }
-    requires listed { ⌜ Listed (now sheet) (length (now places)) (now places) ⌝ }
-    ensures { λ r. ⌜ stateOf r (now (accepted .exit)) (now (system .exit)) (now (vector .exit)) (now (memory .exit)) (now (rows .exit)) ≡ runFor (attemptOf (circuitOf o nodes (length (now (vector .entry))) (now (sheet .entry)) (now (points .entry)) (now (base .entry)))) (jobOf o nodes transient) budget (stateOf c (now (accepted .entry)) (now (system .entry)) (now (vector .entry)) (now (memory .entry)) (now (rows .entry))) ⌝ }
-{
-    if base.len() <= 272 {
-        return run_small(
-            o,
-            nodes,
-            transient,
-            c,
-            budget,
-            sheet,
-            places,
-            points,
-            base,
-            accepted,
-            elimination,
-            system,
-            vector,
-            memory,
-            rows,
-        );
-    }
-    run_large(
-        o,
-        nodes,
-        transient,
-        c,
-        budget,
-        sheet,
-        places,
-        points,
-        base,
-        accepted,
-        elimination,
-        system,
-        vector,
-        memory,
-        rows,
-    )
-}
-
-// The same for matrices of up to 272 numbers, which is N = 16.
-fn run_small(
-    o: Options,
-    nodes: usize,
-    transient: bool,
-    c: Counters,
-    budget: u64,
-    sheet: &[u8],
-    places: &[u8],
-    points: &[u8],
-    base: &[f64],
-    accepted: &mut [f64],
-    elimination: &mut [f64],
-    system: &mut [f64],
-    vector: &mut [f64],
-    memory: &mut [f64],
-    rows: &mut [f64],
-) -> Counters
-    requires sized { ⌜ Sized (length (now vector)) (length (now accepted)) (length (now base)) (length (now elimination)) (length (now system)) ⌝ }
-    requires listed { ⌜ Listed (now sheet) (length (now places)) (now places) ⌝ }
-    requires small { ⌜ length (now base) ≤ 272 ⌝ }
-    ensures { λ r. ⌜ stateOf r (now (accepted .exit)) (now (system .exit)) (now (vector .exit)) (now (memory .exit)) (now (rows .exit)) ≡ runFor (attemptOf (circuitOf o nodes (length (now (vector .entry))) (now (sheet .entry)) (now (points .entry)) (now (base .entry)))) (jobOf o nodes transient) budget (stateOf c (now (accepted .entry)) (now (system .entry)) (now (vector .entry)) (now (memory .entry)) (now (rows .entry))) ⌝ }
+    ensures { λ r. ⌜
+        stateOf r (now (accepted .exit)) (buffersOf (now (base .entry)) (now (system .exit)) (now (vector .exit)) (now (memory .exit)) (now (rows .exit)))
+        ≡ runFor (attemptOf (circuitOf j (length (now (vector .entry))) (now (sheet .entry)) (now (points .entry)))) j (j .options .budget)
+        (stateOf c (now (accepted .entry)) (buffersOf (now (base .entry)) (now (system .entry)) (now (vector .entry)) (now (memory .entry)) (now (rows .entry))))
+        ⌝ }
 {
     let n = base.len();
-    let mut kept = small_matrix();
-    turns(
-        o,
-        nodes,
-        transient,
+    if SMALL < n {
+        return run_large(
+            j,
+            c,
+            sheet,
+            places,
+            points,
+            base,
+            accepted,
+            elimination,
+            system,
+            vector,
+            memory,
+            rows,
+        );
+    }
+    let mut held = small_matrix();
+    run_passes(
+        j,
         c,
-        false,
-        budget,
         sheet,
         places,
         points,
         base,
         accepted,
-        &mut kept[..n],
+        &mut held[..n],
         elimination,
         system,
         vector,
@@ -274,13 +180,10 @@ fn run_small(
     )
 }
 
-// The same for all others.
+// The same with room for every matrix.
 fn run_large(
-    o: Options,
-    nodes: usize,
-    transient: bool,
+    j: Job,
     c: Counters,
-    budget: u64,
     sheet: &[u8],
     places: &[u8],
     points: &[u8],
@@ -294,23 +197,23 @@ fn run_large(
 ) -> Counters
     requires sized { ⌜ Sized (length (now vector)) (length (now accepted)) (length (now base)) (length (now elimination)) (length (now system)) ⌝ }
     requires listed { ⌜ Listed (now sheet) (length (now places)) (now places) ⌝ }
-    ensures { λ r. ⌜ stateOf r (now (accepted .exit)) (now (system .exit)) (now (vector .exit)) (now (memory .exit)) (now (rows .exit)) ≡ runFor (attemptOf (circuitOf o nodes (length (now (vector .entry))) (now (sheet .entry)) (now (points .entry)) (now (base .entry)))) (jobOf o nodes transient) budget (stateOf c (now (accepted .entry)) (now (system .entry)) (now (vector .entry)) (now (memory .entry)) (now (rows .entry))) ⌝ }
+    ensures { λ r. ⌜
+        stateOf r (now (accepted .exit)) (buffersOf (now (base .entry)) (now (system .exit)) (now (vector .exit)) (now (memory .exit)) (now (rows .exit)))
+        ≡ runFor (attemptOf (circuitOf j (length (now (vector .entry))) (now (sheet .entry)) (now (points .entry)))) j (j .options .budget)
+        (stateOf c (now (accepted .entry)) (buffersOf (now (base .entry)) (now (system .entry)) (now (vector .entry)) (now (memory .entry)) (now (rows .entry))))
+        ⌝ }
 {
     let n = base.len();
-    let mut kept = matrix();
-    turns(
-        o,
-        nodes,
-        transient,
+    let mut held = matrix();
+    run_passes(
+        j,
         c,
-        false,
-        budget,
         sheet,
         places,
         points,
         base,
         accepted,
-        &mut kept[..n],
+        &mut held[..n],
         elimination,
         system,
         vector,
@@ -319,41 +222,16 @@ fn run_large(
     )
 }
 
-// Room for the places of the diodes, in zeros.
-fn bytes() -> [u8; 256]
-    ensures { λ r. ⌜ length r ≡ 256 ⌝ }
-{
-    [0; 256]
-}
-
-// A matrix of order 16, in zeros.
-fn small_matrix() -> [f64; 272]
-    ensures { λ r. ⌜ length r ≡ 272 ⌝ }
-{
-    [0.0; 272]
-}
-
-// A matrix of the largest order, in zeros.
-fn matrix() -> [f64; 2352]
-    ensures { λ r. ⌜ length r ≡ 2352 ⌝ }
-{
-    [0.0; 2352]
-}
-
-// At most `budget` passes, with a matrix to hold what is stamped before the diodes, unless there are none (`linear`).
-fn turns(
-    o: Options,
-    nodes: usize,
-    transient: bool,
+// Pass after pass, until the run has ended or its budget is spent; a pass is an attempt and what follows it. `held` is as long as the base, or empty in a circuit without diodes, where the system itself is all that is held.
+fn run_passes(
+    j: Job,
     c: Counters,
-    linear: bool,
-    budget: u64,
     sheet: &[u8],
     places: &[u8],
     points: &[u8],
     base: &[f64],
     accepted: &mut [f64],
-    kept: &mut [f64],
+    held: &mut [f64],
     elimination: &mut [f64],
     system: &mut [f64],
     vector: &mut [f64],
@@ -361,35 +239,36 @@ fn turns(
     rows: &mut [f64],
 ) -> Counters
     requires sized { ⌜ Sized (length (now vector)) (length (now accepted)) (length (now base)) (length (now elimination)) (length (now system)) ⌝ }
-    requires usable { ⌜ (linear ≡ true → hasDiodes (now sheet) ≡ false) × (linear ≡ false → length (now kept) ≡ length (now base)) × Listed (now sheet) (length (now places)) (now places) ⌝ }
-    ensures { λ r. ⌜ stateOf r (now (accepted .exit)) (now (system .exit)) (now (vector .exit)) (now (memory .exit)) (now (rows .exit)) ≡ runFor (attemptOf (circuitOf o nodes (length (now (vector .entry))) (now (sheet .entry)) (now (points .entry)) (now (base .entry)))) (jobOf o nodes transient) budget (stateOf c (now (accepted .entry)) (now (system .entry)) (now (vector .entry)) (now (memory .entry)) (now (rows .entry))) ⌝ }
+    requires holder { ⌜ Holder (now sheet) (now places) (length (now base)) (length (now held)) ⌝ }
+    ensures { λ r. ⌜
+        stateOf r (now (accepted .exit)) (buffersOf (now (base .entry)) (now (system .exit)) (now (vector .exit)) (now (memory .exit)) (now (rows .exit)))
+        ≡ runFor (attemptOf (circuitOf j (length (now (vector .entry))) (now (sheet .entry)) (now (points .entry)))) j (j .options .budget)
+        (stateOf c (now (accepted .entry)) (buffersOf (now (base .entry)) (now (system .entry)) (now (vector .entry)) (now (memory .entry)) (now (rows .entry))))
+        ⌝ }
 {
     let mut s = c;
-    let mut left = budget;
+    let mut left = j.options.budget;
     let mut known = false;
     while left > 0 {
         if !going(s) {
             return s;
         }
-        s = pass(
-            o,
-            nodes,
-            transient,
+        let r = attempt(
+            j,
             s,
-            linear,
             known & alike(s),
             sheet,
             places,
             points,
             base,
             accepted,
-            kept,
+            held,
             elimination,
             system,
             vector,
             memory,
-            rows,
         );
+        s = follow(j, r, s, accepted, vector, rows);
         known = true;
         left -= 1;
     }
@@ -406,69 +285,32 @@ fn alike(c: Counters) -> bool
     c.count != 0
 }
 
-// One pass: an attempt, and what follows it in DC or in the transient. An ended run stays as it is.
-fn pass(
-    o: Options,
-    nodes: usize,
-    transient: bool,
-    c: Counters,
-    linear: bool,
-    again: bool,
-    sheet: &[u8],
-    places: &[u8],
-    points: &[u8],
-    base: &[f64],
-    accepted: &mut [f64],
-    kept: &mut [f64],
-    elimination: &mut [f64],
-    system: &mut [f64],
-    vector: &mut [f64],
-    memory: &mut [f64],
-    rows: &mut [f64],
-) -> Counters
-    requires sized { ⌜ Sized (length (now vector)) (length (now accepted)) (length (now base)) (length (now elimination)) (length (now system)) ⌝ }
-    requires usable { ⌜ Usable (circuitOf o nodes (length (now vector)) (now sheet) (now points) (now base)) (now places) linear again c (now accepted) (now kept) (now system) (now vector) ⌝ }
-    ensures all { λ r. ⌜ stateOf r (now (accepted .exit)) (now (system .exit)) (now (vector .exit)) (now (memory .exit)) (now (rows .exit)) ≡ passOf (attemptOf (circuitOf o nodes (length (now (vector .entry))) (now (sheet .entry)) (now (points .entry)) (now (base .entry)))) (jobOf o nodes transient) (stateOf c (now (accepted .entry)) (now (system .entry)) (now (vector .entry)) (now (memory .entry)) (now (rows .entry))) ⌝ }
-    ensures next { λ r. ⌜ (goingOf r ≡ true → alikeOf r ≡ true → Holds (circuitOf o nodes (length (now (vector .entry))) (now (sheet .entry)) (now (points .entry)) (now (base .entry))) linear r (now (accepted .exit)) (now (kept .exit)) (now (system .exit)) (now (vector .exit))) ⌝ }
-{
-    if !going(c) {
-        return c;
-    }
-    let r = attempt(
-        o,
-        nodes,
-        c,
-        linear,
-        again,
-        sheet,
-        places,
-        points,
-        base,
-        accepted,
-        kept,
-        elimination,
-        system,
-        vector,
-        memory,
-    );
-    if c.phase == DC {
-        return dc_done(o, transient, r, c, vector, rows);
-    }
-    step_done(o, r, c, accepted, vector, rows)
-}
-
-// What follows the attempt of DC: the counters after it; where the transient begins, the first row is written.
-fn dc_done(
-    o: Options,
-    transient: bool,
+// What follows the attempt of a pass: in DC, or in the transient.
+fn follow(
+    j: Job,
     report: Report,
     c: Counters,
+    accepted: &mut [f64],
     vector: &[f64],
     rows: &mut [f64],
 ) -> Counters
-    ensures { λ r. ⌜ writtenOf r (now (rows .exit)) ≡ dcDone o transient report c (now (vector .entry)) (now (rows .entry)) ⌝ }
+    requires { ⌜ length (now vector) ≡ length (now accepted) ⌝ }
+    ensures { λ r. ⌜
+        aftermathOf r (now (accepted .exit)) (now (rows .exit))
+        ≡ aftermath j report c (now (accepted .entry)) (now (vector .entry)) (now (rows .entry))
+        ⌝ }
 {
-    let d = dc_after(o, transient, report, c);
+    if c.phase == DC {
+        return dc_done(j, report, c, vector, rows);
+    }
+    step_done(j, report, c, accepted, vector, rows)
+}
+
+// What follows the attempt of DC: the counters after it; where the transient begins, the first row is written.
+fn dc_done(j: Job, report: Report, c: Counters, vector: &[f64], rows: &mut [f64]) -> Counters
+    ensures { λ r. ⌜ writtenOf r (now (rows .exit)) ≡ dcDone j report c (now (vector .entry)) (now (rows .entry)) ⌝ }
+{
+    let d = dc_after(j.options, j.transient, report, c);
     if d.phase == TRANSIENT {
         return write(d, vector, rows);
     }
@@ -477,7 +319,7 @@ fn dc_done(
 
 // What follows the attempt of a step: the counters after it; where the step is accepted, so is its vector, and the new time may get a row.
 fn step_done(
-    o: Options,
+    j: Job,
     report: Report,
     c: Counters,
     accepted: &mut [f64],
@@ -485,13 +327,34 @@ fn step_done(
     rows: &mut [f64],
 ) -> Counters
     requires { ⌜ length (now vector) ≡ length (now accepted) ⌝ }
-    ensures writes { λ r. ⌜ writtenOf r (now (rows .exit)) ≡ stepDone o report c (now (vector .entry)) (now (rows .entry)) ⌝ }
+    ensures writes { λ r. ⌜ writtenOf r (now (rows .exit)) ≡ stepDone j report c (now (vector .entry)) (now (rows .entry)) ⌝ }
     ensures accepts { λ r. ⌜ now (accepted .exit) ≡ cond (acceptsOf report) (now (vector .entry)) (now (accepted .entry)) ⌝ }
 {
-    let d = step_after(o, report, c);
+    let d = step_after(j.options, report, c);
     if accepts(report) {
         copy(vector, accepted);
-        return landed(o, d, vector, rows);
+        return landed(j.options, d, vector, rows);
     }
     d
+}
+
+// Room for the places of the diodes, in zeros.
+fn bytes() -> [u8; RECORDS]
+    ensures { λ r. ⌜ length r ≡ mostRecords ⌝ }
+{
+    [0; RECORDS]
+}
+
+// A matrix of order 16, in zeros.
+fn small_matrix() -> [f64; SMALL]
+    ensures { λ r. ⌜ length r ≡ 272 ⌝ }
+{
+    [0.0; SMALL]
+}
+
+// A matrix of the largest order, in zeros.
+fn matrix() -> [f64; LARGE]
+    ensures { λ r. ⌜ length r ≡ 2352 ⌝ }
+{
+    [0.0; LARGE]
 }

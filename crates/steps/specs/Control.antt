@@ -5,13 +5,14 @@ use lib.Dec.{ltb, leb}
 use lib.Ieee as Ieee
 use lib.Ieee.{Float, binary64}
 use Rattle.num.specs.Floats.{nought}
+use Rattle.num.specs.Literals.{two}
 use Rattle.options.specs.declared.Options.{Options}
 use Rattle.convergence.specs.declared.Convergence.{Convergence}
 use Rattle.convergence.specs.declared.Convergence.the-variants as check
 use Rattle.steps.specs.declared.Counters.{Counters}
 use Rattle.steps.specs.declared.Report.{Report}
 use Rattle.steps.specs.declared.Report.the-variants.{Yes, No, Error, Diode, Sine}
-use Rattle.steps.specs.Verdicts.{settled, passesUsed, diverged, diode, stepTooSmall, sine}
+use Rattle.numbers.specs.Verdicts.{settled, passesUsed, diverged, diodeCurrent, stepTooSmall, sineRefused}
 use Rattle.steps.specs.Counters.{counted, ended, withDc, begun, anew, again, withStep, withTime}
 
 -- the report of a solved pass. A run's two vectors are equally long, so that the check never refuses there.
@@ -20,6 +21,14 @@ reportOf check.Yes = Yes
 reportOf check.No = No
 reportOf check.Error = Error
 reportOf check.Refused = Error
+
+-- the report of a pass that was solved
+abbrev pub solved : Report → Bool
+solved Yes = true
+solved No = true
+solved Error = true
+solved Diode = false
+solved Sine = false
 
 -- ---- DC
 
@@ -39,8 +48,8 @@ unfoldable pub dcAfter : Options → Bool → Report → Counters → Counters
 dcAfter o transient Yes c = dcOver o transient settled (counted c)
 dcAfter o transient No c = cond (ltb (o .itl1) (counted c .count)) (dcOver o transient passesUsed (counted c)) (counted c)
 dcAfter o transient Error c = dcOver o transient diverged (counted c)
-dcAfter o transient Diode c = failed diode c
-dcAfter o transient Sine c = failed sine c
+dcAfter o transient Diode c = failed diodeCurrent c
+dcAfter o transient Sine c = failed sineRefused c
 
 -- ---- transient
 
@@ -53,7 +62,7 @@ moved o c =
 -- twice the step, at most TSTEP * RMAX
 abbrev pub doubled : Options → Float → Float
 doubled o step =
-    let d = Ieee.mul binary64 step (Ieee.ofBits binary64 0x4000000000000000) in
+    let d = Ieee.mul binary64 step two in
     let most = Ieee.mul binary64 (o .tstep) (o .rmax) in
     cond (Ieee.lt most d) most d
 
@@ -74,8 +83,8 @@ unfoldable pub stepAfter : Options → Report → Counters → Counters
 stepAfter o Yes c = anew (moved o (eased o (counted c)))
 stepAfter o No c = cond (leb (o .itl4) (counted c .count)) (shortened o (counted c)) (counted c)
 stepAfter o Error c = ended diverged (moved o (counted c))
-stepAfter o Diode c = ended diode c
-stepAfter o Sine c = ended sine c
+stepAfter o Diode c = ended diodeCurrent c
+stepAfter o Sine c = ended sineRefused c
 
 -- a time gets a row if it is at or above TSTART and not 0
 abbrev pub rowDue : Options → Float → Bool

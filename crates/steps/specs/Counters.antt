@@ -5,7 +5,8 @@ use lib.Dec.{eqb, ltb}
 use lib.Ieee.{Float}
 use Rattle.num.specs.Floats.{nought}
 use Rattle.steps.specs.declared.Counters.{Counters}
-use Rattle.steps.specs.Verdicts.{budgetSpent, dcPhase, transientPhase, endedPhase}
+use Rattle.numbers.specs.Verdicts.{budgetSpent}
+use Rattle.steps.specs.Phases.{dcPhase, transientPhase, endedPhase}
 
 -- the largest number of 64 bits
 abbrev pub top : ℕ

@@ -1,4 +1,5 @@
-pub mod Verdicts
+-- The control of a run on its counters. Read Counters, then Control; `laws` holds what is proved of them.
+pub mod Phases
 pub mod Counters
 pub mod Control
-pub mod Laws
+pub mod laws

@@ -4,24 +4,8 @@ ghost use mathlib.Core.Path.{_≡_};
 ghost use Rattle.steps.specs.Counters.{next as nextOf, started as startedOf, counted as countedOf, ended as endedOf, anew as anewOf, written as writtenOf, going as goingOf, verdictOf, dcVerdictOf};
 ghost use Rattle.steps.specs.Control.{reportOf, failed as failedOf, dcOver, dcAfter, moved as movedOf, doubled as doubledOf, eased as easedOf, shortened as shortenedOf, stepAfter, rowDue};
 use convergence::Convergence;
+use numbers::verdict;
 use options::Options;
-
-// The verdicts of a run.
-pub const SETTLED: u8 = 0;
-
-pub const PASSES_USED: u8 = 20;
-
-pub const DIVERGED: u8 = 21;
-
-pub const DIODE: u8 = 22;
-
-pub const STEP_TOO_SMALL: u8 = 23;
-
-pub const BUDGET_SPENT: u8 = 24;
-
-pub const NO_ROOM: u8 = 25;
-
-pub const SINE: u8 = 26;
 
 // The phases of a run.
 pub const DC: u8 = 0;
@@ -29,6 +13,13 @@ pub const DC: u8 = 0;
 pub const TRANSIENT: u8 = 1;
 
 pub const ENDED: u8 = 2;
+
+// What a run is asked for, and no pass changes: the options, the node count, and whether a transient follows DC.
+pub struct Job {
+    pub options: Options,
+    pub nodes: usize,
+    pub transient: bool,
+}
 
 // All that a run carries from pass to pass besides its buffers.
 #[repr(C)]
@@ -97,17 +88,17 @@ pub fn dc_after(o: Options, transient: bool, r: Report, c: Counters) -> Counters
     ensures { λ d. ⌜ d ≡ dcAfter o transient r c ⌝ }
 {
     match r {
-        Report::Yes => dc_over(o, transient, SETTLED, counted(c)),
+        Report::Yes => dc_over(o, transient, verdict::SETTLED, counted(c)),
         Report::No => {
             let d = counted(c);
             if o.itl1 < d.count {
-                return dc_over(o, transient, PASSES_USED, d);
+                return dc_over(o, transient, verdict::PASSES_USED, d);
             }
             d
         }
-        Report::Error => dc_over(o, transient, DIVERGED, counted(c)),
-        Report::Diode => failed(DIODE, c),
-        Report::Sine => failed(SINE, c),
+        Report::Error => dc_over(o, transient, verdict::DIVERGED, counted(c)),
+        Report::Diode => failed(verdict::DIODE_CURRENT, c),
+        Report::Sine => failed(verdict::SINE_REFUSED, c),
     }
 }
 
@@ -124,9 +115,9 @@ pub fn step_after(o: Options, r: Report, c: Counters) -> Counters
             }
             d
         }
-        Report::Error => ended(DIVERGED, moved(o, counted(c))),
-        Report::Diode => ended(DIODE, c),
-        Report::Sine => ended(SINE, c),
+        Report::Error => ended(verdict::DIVERGED, moved(o, counted(c))),
+        Report::Diode => ended(verdict::DIODE_CURRENT, c),
+        Report::Sine => ended(verdict::SINE_REFUSED, c),
     }
 }
 
@@ -174,7 +165,7 @@ pub fn verdict_of(c: Counters) -> u8
     ensures { λ r. ⌜ r ≡ verdictOf c ⌝ }
 {
     if going(c) {
-        return BUDGET_SPENT;
+        return verdict::BUDGET_SPENT;
     }
     c.verdict
 }
@@ -184,7 +175,7 @@ pub fn dc_verdict_of(c: Counters) -> u8
     ensures { λ r. ⌜ r ≡ dcVerdictOf c ⌝ }
 {
     if c.phase == DC {
-        return BUDGET_SPENT;
+        return verdict::BUDGET_SPENT;
     }
     c.dc
 }
@@ -253,7 +244,7 @@ fn moved(o: Options, c: Counters) -> Counters
     let mut d = c;
     if o.tstop < t {
         d.time = o.tstop;
-        return ended(SETTLED, d);
+        return ended(verdict::SETTLED, d);
     }
     d.time = t;
     d
@@ -291,7 +282,7 @@ fn shortened(o: Options, c: Counters) -> Counters
     d.step = c.step * o.ft;
     let least = o.tstep * o.rmin;
     if d.step < least {
-        return ended(STEP_TOO_SMALL, moved(o, d));
+        return ended(verdict::STEP_TOO_SMALL, moved(o, d));
     }
     d.cut = true;
     d.count = 0;

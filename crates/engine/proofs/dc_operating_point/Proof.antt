@@ -14,13 +14,12 @@ empty (x ∷ w) h = absurd (omega (arith, h))
 returns : tie.Need-returns
 returns c =
     let x = c .before .before .before .before .before .before .before .before .before .before .before .analysis in
-    (rw (empty (x .last .1 .1 .1 .1 .1 .1 .1 .1 .1 .1 .1 .0) (x .kept .1 .1 .1 .1 .1 .1 .1 .1 .1 .1 .1 .0)) at (x .ensures .0), x .ensures .1)
+    (rw (empty (x .last .1 .1 .1 .1 .1 .1 .1 .1 .1 .0) (x .kept .1 .1 .1 .1 .1 .1 .1 .1 .1 .0)) at (x .ensures .0), x .ensures .1)
 
 pub dc-operating-point-spec : {M : Type 1} → statement M
 dc-operating-point-spec =
     tie.close
     (tie.spec
-    (λ c κs. search needs)
     (λ c. search needs)
     (λ c. search needs)
     (λ c κs. search needs)

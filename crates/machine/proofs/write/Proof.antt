@@ -3,9 +3,9 @@ use Prim.Native.Nat.{ℕ, _+_, _*_, _≤_}
 use lib.ListN.{length}
 use native.Mathlib.Omega.{arith}
 use borrow.Author.Tests.{lt-ltb, le-ltb}
-use Rattle.loops.specs.Laws.{row-fits}
+use Rattle.loops.specs.laws.Loop.{row-fits}
 use Rattle.machine.specs.Machine.{writtenBy}
-use Rattle.machine.specs.Rows.{row-room}
+use Rattle.machine.specs.laws.Rows.{row-room}
 use borrow.Author.Needs.{needs}
 use Rattle.machine.proofs.write.Statement.{statement}
 use Rattle.machine.proofs.write.Tie as tie

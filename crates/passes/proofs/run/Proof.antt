@@ -1,11 +1,14 @@
--- `passes::run` meets its contract: where the lengths fit, and where they do not. Assumes nothing.
+-- `passes::run` meets its contract: where the lengths fit, with diodes or without, and where they do not. Assumes nothing.
 use Prim.Native.Nat.{ℕ, _≤_}
 use mathlib.Core.Path.{_≡_, sym, _∙_}
+use mathlib.Core.Bool.{true, _&&_, false≢true, and-eq-true-iff as both}
+use borrow.Author.Tests.{eqb-true, leb-true, not-true, not-false}
+use lib.Dec.{eqb, leb}
 use lib.Seq.{length-take-le}
 use native.Mathlib.Omega.{arith}
-use Rattle.groups.specs.Listed.{listed-front}
-use Rattle.passes.specs.Sized.{sized}
-use Rattle.passes.specs.Run.{ranOf}
+use Rattle.groups.specs.laws.Listed.{list-bounded, list-lists, listed-front}
+use Rattle.passes.specs.laws.Sized.{sized}
+use Rattle.passes.specs.Run.{runOn}
 use borrow.Author.Needs.{needs}
 use Rattle.passes.proofs.run.Statement.{statement}
 use Rattle.passes.proofs.run.Tie as tie
@@ -17,38 +20,82 @@ within n n₀ d h e = rw e h
 roomy : (n : ℕ) → n ≡ 256 → 256 ≤ n
 roomy n e = omega arith
 
-slice-aggregate-run-fitting : tie.Need-slice-aggregate-run-fitting
-slice-aggregate-run-fitting c = let l = c .before .before .list-diodes in sym (length-take-le _ _ (within _ _ _ (l .ensures .0) (l .kept .1 .0)))
-
-run-fitting-requires : tie.Need-run-fitting-requires
-run-fitting-requires c κs =
-    let l = c .before .before .before .before .before .before .before .before .list-diodes in
-    (sized _ _ _ _ _ (sym (c .before .before .before .before .before .before .before .before .before .before .before .before .fits2 .ensures) ∙ c .before .before .before .before .before .before .before .before .before .before .before .if1 .taken), listed-front _ _ _ (within _ _ _ (l .ensures .0) (l .kept .1 .0)) (l .ensures .1 (roomy _ (c .before .before .before .before .before .before .before .before .before .before .bytes .ensures))))
+-- no diode, and every record was looked at
+free : (l d r n : ℕ) → l ≡ d → r ≡ n → (eqb d 0 && leb r 256) ≡ true → (l ≡ 0) × (n ≤ 256)
+free l d r n e q t =
+    let b = both (eqb d 0) (leb r 256) .0 t in
+    (e ∙ eqb-true d 0 (b .0), rw (← q) (leb-true r 256 (b .1)))
 
 returns : tie.Need-returns
-unfolding ranOf
-returns c = rw (sym (c .before .before .before .before .before .before .before .before .before .before .before .before .before .before .before .before .before .before .before .before .before .before .before .before .before .fits2 .ensures) ∙ c .before .before .before .before .before .before .before .before .before .before .before .before .before .before .before .before .before .before .before .before .before .before .before .before .if1 .taken) (c .before .before .before .before .before .before .before .before .before .before .before .before .run-fitting .ensures)
+unfolding runOn
+returns c = rw (sym (c .before .fits2 .ensures) ∙ not-true _ (c .if1 .taken))
+
+array-share-prefix-list : tie.Need-array-share-prefix-list
+array-share-prefix-list c = let l = c .before .before .before .list-diodes in within _ _ _ (list-bounded _ _ _ _ (l .ensures)) (l .kept .1 .0)
+
+slice-aggregate-run-passes : tie.Need-slice-aggregate-run-passes
+slice-aggregate-run-passes c = let l = c .before .before .before .before .list-diodes in sym (length-take-le _ _ (within _ _ _ (list-bounded _ _ _ _ (l .ensures)) (l .kept .1 .0)))
+
+run-passes-requires : tie.Need-run-passes-requires
+run-passes-requires c κs =
+    let l = c .before .before .before .before .before .before .before .before .before .before .before .list-diodes in
+    let w = within _ _ _ (list-bounded _ _ _ _ (l .ensures)) (l .kept .1 .0) in (
+      sized _ _ _ _ _ (sym (c .before .before .before .before .before .before .before .before .before .before .before .before .before .before .before .fits2 .ensures) ∙ not-false _ (c .before .before .before .before .before .before .before .before .before .before .before .before .before .before .if1 .left)),
+      record {
+        listed = listed-front _ _ _ w (list-lists _ _ _ _ (l .ensures) (roomy _ (c .before .before .before .before .before .before .before .before .before .before .before .before .before .bytes .ensures)));
+        none = λ _. free _ _ _ _ (length-take-le _ _ w) (c .before .before .before .before .before .before .before .before .before .records .ensures) (c .before .before .before .before .before .before .before .before .if2 .taken);
+        long = λ h. absurd (false≢true (sym h));
+      },
+    )
 
 returns-2 : tie.Need-returns-2
-unfolding ranOf
-returns-2 c = rw (sym (c .before .fits2 .ensures) ∙ c .if1 .left)
+unfolding runOn
+returns-2 c = rw (sym (c .before .before .before .before .before .before .before .before .before .before .before .before .before .before .before .before .before .before .before .before .before .before .before .before .before .before .before .before .before .fits2 .ensures) ∙ not-false _ (c .before .before .before .before .before .before .before .before .before .before .before .before .before .before .before .before .before .before .before .before .before .before .before .before .before .before .before .before .if1 .left)) (c .before .before .before .before .before .before .before .before .before .before .before .before .before .run-passes .ensures)
+
+array-share-prefix-list-2 : tie.Need-array-share-prefix-list-2
+array-share-prefix-list-2 c = let l = c .before .before .before .list-diodes in within _ _ _ (list-bounded _ _ _ _ (l .ensures)) (l .kept .1 .0)
+
+slice-aggregate-run-held : tie.Need-slice-aggregate-run-held
+slice-aggregate-run-held c = let l = c .before .before .before .before .list-diodes in sym (length-take-le _ _ (within _ _ _ (list-bounded _ _ _ _ (l .ensures)) (l .kept .1 .0)))
+
+run-held-requires : tie.Need-run-held-requires
+run-held-requires c κs =
+    let l = c .before .before .before .before .before .before .before .before .before .before .list-diodes in
+    (sized _ _ _ _ _ (sym (c .before .before .before .before .before .before .before .before .before .before .before .before .before .before .fits2 .ensures) ∙ not-false _ (c .before .before .before .before .before .before .before .before .before .before .before .before .before .if1 .left)), listed-front _ _ _ (within _ _ _ (list-bounded _ _ _ _ (l .ensures)) (l .kept .1 .0)) (list-lists _ _ _ _ (l .ensures) (roomy _ (c .before .before .before .before .before .before .before .before .before .before .before .before .bytes .ensures))))
+
+returns-3 : tie.Need-returns-3
+unfolding runOn
+returns-3 c = rw (sym (c .before .before .before .before .before .before .before .before .before .before .before .before .before .before .before .before .before .before .before .before .before .before .before .before .before .before .before .fits2 .ensures) ∙ not-false _ (c .before .before .before .before .before .before .before .before .before .before .before .before .before .before .before .before .before .before .before .before .before .before .before .before .before .before .if1 .left)) (c .before .before .before .before .before .before .before .before .before .before .before .before .run-held .ensures)
 
 pub run-spec : {M : Type 1} → statement M
 run-spec =
     tie.close
     (tie.spec
     (λ c κs. search needs)
-    (λ c κs. search needs)
-    (λ c. search needs)
-    (λ c κs. search needs)
-    (λ c. search needs)
-    slice-aggregate-run-fitting
-    run-fitting-requires
-    (λ c. search needs)
-    (λ c. search needs)
-    (λ c. search needs)
-    (λ c. search needs)
-    (λ c. search needs)
-    (λ c. search needs)
     returns
-    returns-2)
+    (λ c κs. search needs)
+    (λ c. search needs)
+    (λ c κs. search needs)
+    (λ c κs. search needs)
+    array-share-prefix-list
+    slice-aggregate-run-passes
+    (λ c. search needs)
+    (λ c. search needs)
+    run-passes-requires
+    (λ c. search needs)
+    (λ c. search needs)
+    (λ c. search needs)
+    (λ c. search needs)
+    (λ c. search needs)
+    (λ c. search needs)
+    returns-2
+    array-share-prefix-list-2
+    slice-aggregate-run-held
+    run-held-requires
+    (λ c. search needs)
+    (λ c. search needs)
+    (λ c. search needs)
+    (λ c. search needs)
+    (λ c. search needs)
+    (λ c. search needs)
+    returns-3)

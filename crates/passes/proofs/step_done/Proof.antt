@@ -1,6 +1,6 @@
 -- `passes::step_done` meets its contract: accepted or not. Assumes nothing.
 use mathlib.Core.Path.{sym, _∙_}
-use Rattle.loops.specs.Laws.{copied-same}
+use Rattle.loops.specs.laws.Loop.{copied-same}
 use Rattle.passes.specs.Done.{stepDone}
 use borrow.Author.Needs.{needs}
 use Rattle.passes.proofs.step_done.Statement.{statement}

@@ -3,7 +3,7 @@ use mathlib.Core.Path.{_≡_, ap, _∙_}
 use native.Mathlib.Omega.{arith}
 use lib.ListN.{length}
 use Rattle.loops.specs.Loop.{turns}
-use Rattle.loops.specs.Laws.{more, done}
+use Rattle.loops.specs.laws.Loop.{more, done}
 use Rattle.engine.specs.Begin.{forgotten, forgetAt}
 use borrow.Author.Needs.{needs}
 use Rattle.engine.proofs.begin.forget.Statement.{statement}

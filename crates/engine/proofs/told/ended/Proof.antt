@@ -1,4 +1,4 @@
-use Rattle.engine.specs.Result.{endingOf}
+use Rattle.engine.specs.Engine.{endingOf}
 use borrow.Author.Needs.{needs}
 use Rattle.engine.proofs.told.ended.Statement.{statement}
 use Rattle.engine.proofs.told.ended.Tie as tie

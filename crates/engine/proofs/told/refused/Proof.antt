@@ -1,4 +1,4 @@
-use Rattle.engine.specs.Result.{refusedOf}
+use Rattle.engine.specs.Engine.{refusedOf}
 use borrow.Author.Needs.{needs}
 use Rattle.engine.proofs.told.refused.Statement.{statement}
 use Rattle.engine.proofs.told.refused.Tie as tie

@@ -5,7 +5,7 @@ use native.Mathlib.Omega.{arith}
 use lib.ListN.{length, take}
 use lib.Seq.{length-take-le}
 use lib.Ieee.{Float}
-use Rattle.engine.specs.Work.{Worked, ran}
+use Rattle.engine.specs.Work.{handover}
 use borrow.Author.Needs.{needs}
 use Rattle.engine.proofs.work.run_in.Statement.{statement}
 use Rattle.engine.proofs.work.run_in.Tie as tie
@@ -20,7 +20,7 @@ work-requires : tie.Need-work-requires
 work-requires c κs = (c .before .before .before .before .before .before .before .before .before .before .before .before .before .before .before .before .pre, part _ _ (c .before .before .before .before .before .before .before .before .before .before .before .before .before .before .before .before .pre .small) (c .before .before .before .before .before .before .before .cells .ensures .0))
 
 returns : tie.Need-returns
-returns c = ap (λ (w : Worked). ran (w .base) (w .state)) (c .before .before .before .before .before .before .before .before .before .before .before .before .before .work .ensures)
+returns c = ap handover (c .before .before .before .before .before .before .before .before .before .before .before .before .before .work .ensures)
 
 pub run-in-spec : {M : Type 1} → statement M
 run-in-spec =

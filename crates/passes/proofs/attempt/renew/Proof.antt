@@ -14,10 +14,10 @@ part : (a : List Float) (n : ℕ) → n ≤ 48 → length a ≡ 48 → length (t
 part a n h l = length-take-le n a (omega arith)
 
 slice-aggregate-renew-in : tie.Need-slice-aggregate-renew-in
-slice-aggregate-renew-in c = sym (part _ _ (c .before .before .before .before .before .pre .1) (c .before .before .cells .ensures .0))
+slice-aggregate-renew-in c = sym (part _ _ (c .before .before .before .before .before .pre .small) (c .before .before .cells .ensures .0))
 
 renew-in-requires : tie.Need-renew-in-requires
-renew-in-requires c κs = (c .before .before .before .before .before .before .pre .0, c .before .before .before .before .before .before .pre .1, c .before .before .before .before .before .before .pre .2, part _ _ (c .before .before .before .before .before .before .pre .1) (c .before .before .before .cells .ensures .0))
+renew-in-requires c κs = (c .before .before .before .before .before .before .pre, part _ _ (c .before .before .before .before .before .before .pre .small) (c .before .before .before .cells .ensures .0))
 
 pub renew-spec : {M : Type 1} → statement M
 renew-spec =

@@ -6,9 +6,8 @@ use Rattle.passes.proofs.attempt.renew_in.Tie as tie
 
 returns : tie.Need-returns
 returns c =
-    let a = c .before .before .before .before .before .before .before .before .before .before .before .before .before .before .before .before .before .before .before .before .before .before .before in
-    let z = a .pre in
-    renews _ _ _ _ _ _ (a .args .x .now) _ _ _ _ _ _ _ (z .0) (z .1) refl (z .3) (z .2) (c .before .before .before .before .before .before .before .before .before .before .before .before .before .before .before .before .before .solve .ensures) (c .before .before .before .before .before .before .before .before .before .before .before .clear-if .ensures) (c .before .before .before .before .before .before .before .before .before .before .before .clear-if .kept .0) (c .before .before .before .before .before .before .convergence-check .ensures) (c .before .before .before .copy .ensures) (c .report-of .ensures)
+    let z = c .before .before .before .before .before .before .before .before .before .before .before .before .before .before .before .before .before .before .before .before .before .before .before .pre in
+    renews _ _ _ _ _ _ _ _ _ _ _ _ (z .0) (z .1) (c .before .before .before .before .before .before .before .before .before .before .before .before .before .before .before .before .before .solve .ensures) (c .before .before .before .before .before .before .before .before .before .before .before .clear-if .ensures) (c .before .before .before .before .before .before .before .before .before .before .before .clear-if .kept .0) (c .before .before .before .before .before .before .convergence-check .ensures) (c .before .before .before .copy .ensures) (c .report-of .ensures)
 
 pub renew-in-spec : {M : Type 1} → statement M
 renew-in-spec =

@@ -1,7 +1,7 @@
 -- `passes::attempt::stamp_first` meets its contract: what is kept is what would be stamped. Assumes nothing.
 use mathlib.Core.Path.{_≡_, sym, ap, _∙_}
 use Rattle.groups.specs.Sources.{drivenOf}
-use Rattle.loops.specs.Laws.{copied-same}
+use Rattle.loops.specs.laws.Loop.{copied-same}
 use Rattle.passes.proofs.Joins.{linear-anew}
 use borrow.Author.Needs.{needs}
 use Rattle.passes.proofs.attempt.stamp_first.Statement.{statement}

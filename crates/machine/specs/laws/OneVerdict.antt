@@ -6,12 +6,14 @@ use mathlib.Core.Bool.{Bool, true, false, cond}
 use lib.Dec.{eqb}
 use native.Mathlib.Omega.{arith}
 use Rattle.steps.specs.declared.Counters.{Counters}
-use Rattle.steps.specs.Verdicts.{budgetSpent, dcPhase}
+use Rattle.numbers.specs.Verdicts.{budgetSpent}
+use Rattle.steps.specs.Phases.{dcPhase}
 use Rattle.steps.specs.Counters.{started, going, verdictOf, dcVerdictOf}
-use Rattle.steps.specs.Laws.{Ends, settles, «runs-out», diverges, shrinks, fills, Fails, «at-diode», «at-sine», Closed}
-use Rattle.machine.specs.State.{State, Job, Attempt}
+use Rattle.steps.specs.laws.Control.{Ends, settles, «runs-out», diverges, shrinks, fills, Fails, «at-diode», «at-sine», Closed}
+use Rattle.steps.specs.declared.Job.{Job}
+use Rattle.machine.specs.State.{State, Attempt}
 use Rattle.machine.specs.Machine.{pass, runFor}
-use Rattle.machine.specs.Kept.{Own, Failed, pass-keeps}
+use Rattle.machine.specs.laws.Kept.{Own, Failed, pass-keeps}
 
 -- how a run that has ended ended: in a solved pass, or in one that failed
 pub data Ended (transient : Bool) (v : ℕ) : Type 0 where

@@ -12,9 +12,9 @@ use Rattle.options.specs.declared.Options.{Options}
 use Rattle.steps.specs.declared.Counters.{Counters}
 use Rattle.steps.specs.declared.Report.{Report}
 use Rattle.steps.specs.declared.Report.the-variants.{Yes, No, Error, Diode, Sine}
-use Rattle.steps.specs.Verdicts.{settled, passesUsed, diverged, diode, stepTooSmall, noRoom, sine}
+use Rattle.numbers.specs.Verdicts.{settled, passesUsed, diverged, diodeCurrent, stepTooSmall, noRoom, sineRefused}
 use Rattle.steps.specs.Counters.{top, next, counted, ended, withDc, begun, anew, again, withStep, withTime, written}
-use Rattle.steps.specs.Control.{dcOver, dcAfter, moved, eased, shortened, stepAfter}
+use Rattle.steps.specs.Control.{solved, dcOver, dcAfter, moved, eased, shortened, stepAfter}
 
 -- ---- counting
 
@@ -48,16 +48,8 @@ pub data Ends : Bool → ℕ → Type 0 where
 
 -- in a pass that was not solved
 pub data Fails : ℕ → Type 0 where
-  «at-diode» : Fails diode
-  «at-sine» : Fails sine
-
--- the report of a pass that was solved
-abbrev pub solved : Report → Bool
-solved Yes = true
-solved No = true
-solved Error = true
-solved Diode = false
-solved Sine = false
+  «at-diode» : Fails diodeCurrent
+  «at-sine» : Fails sineRefused
 
 -- ---- what no small change breaks
 

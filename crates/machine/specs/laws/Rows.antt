@@ -12,16 +12,18 @@ use borrow.Author.Tests.{ltb-true}
 use native.Mathlib.Omega.{arith}
 use native.Mathlib.Nat.{mul-le-mul-right, suc-mul, div-mul-le-self, div-le-self}
 use Rattle.loops.specs.Loop.{rowAt}
-use Rattle.loops.specs.Laws.{row-length}
+use Rattle.loops.specs.laws.Loop.{row-length}
 use Rattle.options.specs.declared.Options.{Options}
 use Rattle.steps.specs.declared.Counters.{Counters}
 use Rattle.steps.specs.declared.Report.{Report}
 use Rattle.steps.specs.declared.Report.the-variants.{Yes, No, Error, Diode, Sine}
-use Rattle.steps.specs.Verdicts.{noRoom, dcPhase, transientPhase}
+use Rattle.numbers.specs.Verdicts.{noRoom}
+use Rattle.steps.specs.Phases.{dcPhase, transientPhase}
 use Rattle.steps.specs.Counters.{top, next, ended, written}
 use Rattle.steps.specs.Control.{dcAfter, stepAfter, rowDue}
-use Rattle.steps.specs.Laws.{next-more, next-least, Closed, dc-keeps, step-keeps}
-use Rattle.machine.specs.State.{State, Job, Attempt, Written, writtenOf}
+use Rattle.steps.specs.laws.Control.{next-more, next-least, Closed, dc-keeps, step-keeps}
+use Rattle.steps.specs.declared.Job.{Job}
+use Rattle.machine.specs.State.{Buffers, State, Attempt, Written, writtenOf}
 use Rattle.machine.specs.Machine.{tried, triedBy, writtenBy, landed, after, accepts, dcPass, stepPass, pass, runFor}
 
 -- ---- one row
@@ -136,36 +138,36 @@ module _ (k n : ℕ) (old : List Float) (small : length old ≤ top) where
 
 -- f keeps vectors of n numbers
 abbrev pub Steady : ℕ → Attempt → Type 0
-Steady n f = (c : Counters) (a s v m : List Float) → length v ≡ n → length (f c a s v m .vector) ≡ n
+Steady n f = (c : Counters) (a : List Float) (x : Buffers) → length (x .vector) ≡ n → length (f c a x .vector) ≡ n
 
 -- the rows stand, and the vector is as long as it was
 pub record Grown (k n : ℕ) (old : List Float) (t : State) : Type 0 where
-  pub stand : Stand k (n + 1) old (t .counters) (t .rows)
-  pub long : length (t .vector) ≡ n
+  pub stand : Stand k (n + 1) old (t .counters) (t .buffers .rows)
+  pub long : length (t .buffers .vector) ≡ n
 
 module _ (f : Attempt) (j : Job) (n : ℕ) (steady : Steady n f) (k : ℕ) where
-  long-tried : (s : State) → length (s .vector) ≡ n → length (triedBy f j s .vector) ≡ n
+  long-tried : (s : State) → length (s .buffers .vector) ≡ n → length (triedBy f j s .vector) ≡ n
   unfolding tried
-  long-tried s l = steady (s .counters) (s .accepted) (s .system) (s .vector) (s .memory) l
+  long-tried s l = steady (s .counters) (s .accepted) (s .buffers) l
 
-  module _ (s : State) (small : length (s .rows) ≤ top) (h : k ≤ s .counters .rows) (l : length (s .vector) ≡ n) where
+  module _ (s : State) (small : length (s .buffers .rows) ≤ top) (h : k ≤ s .counters .rows) (l : length (s .buffers .vector) ≡ n) where
     abbrev Grows : State → Type 0
-    Grows = Grown k n (s .rows)
+    Grows = Grown k n (s .buffers .rows)
 
-    grows : (accepted : List Float) (w : Written) → Stands k n (s .rows) small w → Grows (after accepted (triedBy f j s) w)
+    grows : (accepted : List Float) (w : Written) → Stands k n (s .buffers .rows) small w → Grows (after s accepted (triedBy f j s) w)
     grows accepted w p = record { stand = p; long = long-tried s l }
 
     dc-grown : Grows (dcPass f j s)
     unfolding dcPass
     dc-grown =
         let r = dc-rows k (j .options) (s .counters) h (j .transient) (triedBy f j s .report) in
-        grows _ _ (choose k n (s .rows) small (eqb (dcAfter (j .options) (j .transient) (triedBy f j s .report) (s .counters) .phase) transientPhase) _ _ (write-stands k n (s .rows) small _ _ r (long-tried s l)) (untouched k n (s .rows) small _ r))
+        grows _ _ (choose k n (s .buffers .rows) small (eqb (dcAfter (j .options) (j .transient) (triedBy f j s .report) (s .counters) .phase) transientPhase) _ _ (write-stands k n (s .buffers .rows) small _ _ r (long-tried s l)) (untouched k n (s .buffers .rows) small _ r))
 
-    step-grown : Grows (stepPass f (j .options) (j .nodes) s)
+    step-grown : Grows (stepPass f j s)
     unfolding stepPass
     step-grown =
         let r = step-rows k (j .options) (s .counters) h (triedBy f j s .report) in
-        either (accepts (triedBy f j s .report)) _ _ (grows _ _ (land-stands k n (s .rows) small (j .options) _ _ r (long-tried s l))) (grows _ _ (untouched k n (s .rows) small _ r))
+        either (accepts (triedBy f j s .report)) _ _ (grows _ _ (land-stands k n (s .buffers .rows) small (j .options) _ _ r (long-tried s l))) (grows _ _ (untouched k n (s .buffers .rows) small _ r))
       where
         either : (b : Bool) (x y : State) → Grows x → Grows y → Grows (cond b x y)
         either true x y p q = p
@@ -175,16 +177,16 @@ module _ (f : Attempt) (j : Job) (n : ℕ) (steady : Steady n f) (k : ℕ) where
     unfolding pass
     pass-grown = go (eqb (s .counters .phase) dcPhase) (eqb (s .counters .phase) transientPhase)
       where
-        go : (a b : Bool) → Grows (cond a (dcPass f j s) (cond b (stepPass f (j .options) (j .nodes) s) s))
+        go : (a b : Bool) → Grows (cond a (dcPass f j s) (cond b (stepPass f j s) s))
         go true b = dc-grown
         go false true = step-grown
-        go false false = record { stand = untouched k n (s .rows) small (s .counters) h; long = l }
+        go false false = record { stand = untouched k n (s .buffers .rows) small (s .counters) h; long = l }
 
 module _ (f : Attempt) (j : Job) (n : ℕ) (steady : Steady n f) where
   -- no budget changes a row that was written, nor what lies past the rows written
-  pub run-grown : (k b : ℕ) (s : State) → length (s .rows) ≤ top → k ≤ s .counters .rows → length (s .vector) ≡ n → Grown k n (s .rows) (runFor f j b s)
+  pub run-grown : (k b : ℕ) (s : State) → length (s .buffers .rows) ≤ top → k ≤ s .counters .rows → length (s .buffers .vector) ≡ n → Grown k n (s .buffers .rows) (runFor f j b s)
   unfolding runFor
-  run-grown k zero s small h l = record { stand = untouched k n (s .rows) small (s .counters) h; long = l }
+  run-grown k zero s small h l = record { stand = untouched k n (s .buffers .rows) small (s .counters) h; long = l }
   run-grown k (suc b) s small h l =
       let p = pass-grown f j n steady k s small h l in
       let q = run-grown k b (pass f j s) (omega (arith, p .stand .long)) (p .stand .more) (p .long) in

@@ -15,13 +15,16 @@ use Rattle.convergence.specs.Convergence.{convergenceOf}
 use Rattle.steps.specs.declared.Counters.{Counters}
 use Rattle.steps.specs.declared.Report.{Report}
 use Rattle.steps.specs.declared.Report.the-variants.{Diode, Sine}
-use Rattle.steps.specs.Verdicts.{diode, dcPhase, transientPhase}
+use Rattle.numbers.specs.Verdicts.{diodeCurrent}
+use Rattle.steps.specs.Phases.{dcPhase, transientPhase}
 use Rattle.steps.specs.Counters.{counted, ended, withDc, going}
 use Rattle.steps.specs.Control.{reportOf, dcAfter, stepAfter, rowDue}
-use Rattle.steps.specs.Laws.{Ends, fills, Fails, «at-diode», «at-sine», solved, Closed, dc-keeps, step-keeps}
-use Rattle.machine.specs.State.{State, Job, Attempt, Written}
+use Rattle.steps.specs.laws.Control.{Ends, fills, Fails, «at-diode», «at-sine», Closed, dc-keeps, step-keeps}
+use Rattle.steps.specs.Control.{solved}
+use Rattle.steps.specs.declared.Job.{Job}
+use Rattle.machine.specs.State.{State, Attempt, Written}
 use Rattle.machine.specs.Machine.{before, reported, tried, triedBy, writtenBy, landed, accepts, dcPass, stepPass, pass}
-use Rattle.machine.specs.Budget.{pass-stopped}
+use Rattle.machine.specs.laws.Budget.{pass-stopped}
 
 -- ---- what an attempt reports
 
@@ -34,17 +37,17 @@ check-solved check.Refused = refl
 module _ (f : Attempt) (j : Job) (s : State) where
   -- what is wrong with the attempt: 0 is nothing
   abbrev pub faultAt : ℕ
-  faultAt = f (s .counters) (s .accepted) (s .system) (s .vector) (s .memory) .fault
+  faultAt = f (s .counters) (s .accepted) (s .buffers) .fault
 
   report-solved : eqb faultAt 0 ≡ true → solved (triedBy f j s .report) ≡ true
   unfolding tried
-  report-solved h = rw h (check-solved (convergenceOf (f (s .counters) (s .accepted) (s .system) (s .vector) (s .memory) .vector) (before (s .counters .first) (s .vector)) (j .nodes) (j .options)))
+  report-solved h = rw h (check-solved (convergenceOf (f (s .counters) (s .accepted) (s .buffers) .vector) (before (s .counters .first) (s .buffers .vector)) (j .nodes) (j .options)))
 
-  report-diode : eqb faultAt 0 ≡ false → eqb faultAt diode ≡ true → triedBy f j s .report ≡ Diode
+  report-diode : eqb faultAt 0 ≡ false → eqb faultAt diodeCurrent ≡ true → triedBy f j s .report ≡ Diode
   unfolding tried
   report-diode h d = rw (h, d)
 
-  report-sine : eqb faultAt 0 ≡ false → eqb faultAt diode ≡ false → triedBy f j s .report ≡ Sine
+  report-sine : eqb faultAt 0 ≡ false → eqb faultAt diodeCurrent ≡ false → triedBy f j s .report ≡ Sine
   unfolding tried
   report-sine h d = rw (h, d)
 
@@ -105,7 +108,7 @@ module _ (P : Counters → Type 0) (f : Attempt) (j : Job) (k : Closed (j .trans
       go true h = rw h (write-keeps P (in-transient (dcNext f j s) own h) _ _ _ p)
       go false h = rw h p
 
-  step-pass : Closed true P → P (stepAfter (j .options) (triedBy f j s .report) (s .counters)) → P (stepPass f (j .options) (j .nodes) s .counters)
+  step-pass : Closed true P → P (stepAfter (j .options) (triedBy f j s .report) (s .counters)) → P (stepPass f j s .counters)
   unfolding stepPass
   step-pass t p = either-state P (accepts (triedBy f j s .report)) _ _ (land-keeps P t _ _ _ _ p) p
 
@@ -117,7 +120,7 @@ module _ (P : Counters → Type 0) (f : Attempt) (j : Job) (k : Closed (j .trans
       w : solved (triedBy f j s .report) ≡ true
       w = report-solved f j s h
 
-      by-phase : (a b : Bool) → eqb (s .counters .phase) dcPhase ≡ a → eqb (s .counters .phase) transientPhase ≡ b → P (cond a (dcPass f j s) (cond b (stepPass f (j .options) (j .nodes) s) s) .counters)
+      by-phase : (a b : Bool) → eqb (s .counters .phase) dcPhase ≡ a → eqb (s .counters .phase) transientPhase ≡ b → P (cond a (dcPass f j s) (cond b (stepPass f j s) s) .counters)
       by-phase true b x y = dc-pass (dc-keeps P (j .options) (j .transient) k _ _ w p) (dc-keeps (Own (j .transient)) (j .options) (j .transient) (own-closed (j .transient)) _ _ w own)
       by-phase false true x y = let t = in-transient (s .counters) own y in step-pass t (step-keeps P (j .options) t _ _ w p)
       by-phase false false x y = absurd (neither (s .counters) g x y)
@@ -133,9 +136,9 @@ module _ (f : Attempt) (j : Job) (s : State) (Q : Counters → Type 0) where
   -- a live run ends with 22 or 26, and nothing is counted
   pub pass-failed : going (s .counters) ≡ true → eqb (faultAt f j s) 0 ≡ false → ((v : ℕ) → Fails v → Failed Q (s .counters) v) → Q (pass f j s .counters)
   unfolding pass dcPass stepPass dcAfter stepAfter
-  pass-failed g h q = by-phase (eqb (s .counters .phase) dcPhase) (eqb (s .counters .phase) transientPhase) (eqb (faultAt f j s) diode) refl refl refl
+  pass-failed g h q = by-phase (eqb (s .counters .phase) dcPhase) (eqb (s .counters .phase) transientPhase) (eqb (faultAt f j s) diodeCurrent) refl refl refl
     where
-      by-phase : (a b d : Bool) → eqb (s .counters .phase) dcPhase ≡ a → eqb (s .counters .phase) transientPhase ≡ b → eqb (faultAt f j s) diode ≡ d → Q (cond a (dcPass f j s) (cond b (stepPass f (j .options) (j .nodes) s) s) .counters)
+      by-phase : (a b d : Bool) → eqb (s .counters .phase) dcPhase ≡ a → eqb (s .counters .phase) transientPhase ≡ b → eqb (faultAt f j s) diodeCurrent ≡ d → Q (cond a (dcPass f j s) (cond b (stepPass f j s) s) .counters)
       by-phase true b true x y z = rw (report-diode f j s h z) (q _ «at-diode» .dc)
       by-phase true b false x y z = rw (report-sine f j s h z) (q _ «at-sine» .dc)
       by-phase false true true x y z = rw (report-diode f j s h z) (q _ «at-diode» .step)

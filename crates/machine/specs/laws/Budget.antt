@@ -1,15 +1,17 @@
--- Laws of budgets, for every stamping and solving f: an ended run stays, and budgets add up. Clients cite all that is `pub`. Assumes nothing.
+-- Laws of budgets, for every stamping and solving f: an ended run stays, budgets add up, and no pass changes the base. Clients cite all that is `pub`. Assumes nothing.
 use Prim.Native.Nat.{ℕ, zero, suc, _+_, _-_, _<_, _≤_}
 use mathlib.Core.Path.{_≡_, refl, ap, _∙_}
-use mathlib.Core.Bool.{Bool, true, false}
+use mathlib.Core.Bool.{Bool, true, false, cond}
+use lib.Dec.{eqb}
 use mathlib.Core.List.{List, [], _∷_}
 use borrow.Author.Tests.{eq-eqb, ne-eqb, ltb-false}
 use native.Mathlib.Omega.{arith}
 use native.Mathlib.Nat.{zero-add, suc-add}
-use Rattle.steps.specs.Verdicts.{dcPhase, transientPhase}
+use Rattle.steps.specs.Phases.{dcPhase, transientPhase}
 use Rattle.steps.specs.Counters.{going}
-use Rattle.machine.specs.State.{State, Job, Attempt}
-use Rattle.machine.specs.Machine.{dcPass, stepPass, pass, runFor, runAll}
+use Rattle.steps.specs.declared.Job.{Job}
+use Rattle.machine.specs.State.{State, Attempt}
+use Rattle.machine.specs.Machine.{triedBy, accepts, dcPass, stepPass, pass, runFor, runAll}
 
 -- the sum of budgets
 abbrev pub total : List ℕ → ℕ
@@ -23,7 +25,7 @@ module _ (f : Attempt) (j : Job) where
   unfolding pass
   pass-dc s h = rw (eq-eqb _ _ h)
 
-  pub pass-step : (s : State) → (s .counters .phase ≡ dcPhase → ⊥) → s .counters .phase ≡ transientPhase → pass f j s ≡ stepPass f (j .options) (j .nodes) s
+  pub pass-step : (s : State) → (s .counters .phase ≡ dcPhase → ⊥) → s .counters .phase ≡ transientPhase → pass f j s ≡ stepPass f j s
   unfolding pass
   pass-step s n h = rw (ne-eqb _ _ n, eq-eqb _ _ h)
 
@@ -62,3 +64,29 @@ module _ (f : Attempt) (j : Job) where
   unfolding runFor
   run-many [] s = refl
   run-many (b ∷ bs) s = run-many bs (runFor f j b s) ∙ run-more b (total bs) s
+
+  -- ---- the base
+
+  step-base : (s : State) → stepPass f j s .buffers .base ≡ s .buffers .base
+  unfolding stepPass
+  step-base s = either (accepts (triedBy f j s .report)) _ _ refl refl
+    where
+      either : (a : Bool) (x y : State) → x .buffers .base ≡ s .buffers .base → y .buffers .base ≡ s .buffers .base → cond a x y .buffers .base ≡ s .buffers .base
+      either true x y p q = p
+      either false x y p q = q
+
+  -- no pass changes the base matrix
+  pub pass-base : (s : State) → pass f j s .buffers .base ≡ s .buffers .base
+  unfolding pass dcPass
+  pass-base s = go (eqb (s .counters .phase) dcPhase) (eqb (s .counters .phase) transientPhase)
+    where
+      go : (a b : Bool) → cond a (dcPass f j s) (cond b (stepPass f j s) s) .buffers .base ≡ s .buffers .base
+      go true b = refl
+      go false true = step-base s
+      go false false = refl
+
+  -- and so no run does
+  pub run-base : (n : ℕ) (s : State) → runFor f j n s .buffers .base ≡ s .buffers .base
+  unfolding runFor
+  run-base zero s = refl
+  run-base (suc n) s = run-base n (pass f j s) ∙ pass-base s

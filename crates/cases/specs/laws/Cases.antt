@@ -7,10 +7,13 @@ use mathlib.Core.List.{List, [], _∷_, _++_, map}
 use lib.ListN.{length, replicate, set}
 use lib.Ieee as Ieee
 use lib.Ieee.{Float, nan, binary64, ofBits, toBits}
+use Rattle.numbers.specs.Kinds as kind
 use Rattle.num.specs.Floats as floats
+use Rattle.num.specs.Floats.{nought}
 use Rattle.num.specs.Le as le
+use Rattle.num.specs.Literals.{half, one, two, three, four, five, six, minusHalf, minusOne, minusTwo, tiny, huge}
 use Rattle.loops.specs.Loop as loop
-use Rattle.options.specs.declared.Options.{Options}
+use Rattle.options.specs.Bench.{bench}
 use Rattle.checks.specs.Checks as checks
 use Rattle.sheet.specs.Check as sheet
 use Rattle.sheet.specs.Range as range
@@ -19,7 +22,7 @@ use Rattle.sheet.specs.Row as row
 use Rattle.stamps.specs.Kinds as kinds
 use Rattle.stamps.specs.Write as write
 use Rattle.groups.specs.Diodes as diodes
-use Rattle.groups.specs.Linear as linear
+use Rattle.groups.specs.Plain as plain
 use Rattle.groups.specs.Records as records
 use Rattle.groups.specs.Sources as sources
 use Rattle.groups.specs.Stamping as stamping
@@ -31,6 +34,7 @@ use Rattle.solve.specs.Solve as solve
 use Rattle.convergence.specs.Convergence as convergence
 use Rattle.steps.specs.Control as control
 use Rattle.steps.specs.Counters as counters
+use Rattle.machine.specs.State.{buffersOf}
 use Rattle.machine.specs.Machine as machine
 use Rattle.passes.specs.Attempt as attempt
 use Rattle.engine.specs.declared.Ending.{Ending}
@@ -38,49 +42,9 @@ use Rattle.engine.specs.declared.Outcome.{Outcome}
 use Rattle.engine.specs.declared.Outcome.the-variants.{Refused, Ended}
 use Rattle.engine.specs.Begin as begin
 use Rattle.engine.specs.Engine as engine
-use Rattle.engine.specs.Result as result
 use Rattle.engine.specs.Work as work
 use Rattle.exact.specs.Exact as exact
 use Rattle.judge.specs.Judge as judge
-
--- ---- numbers
-
-abbrev zero-point-one : Float
-zero-point-one = ofBits binary64 0x3FB999999999999A
-
-abbrev half : Float
-half = ofBits binary64 0x3FE0000000000000
-
-abbrev one : Float
-one = ofBits binary64 0x3FF0000000000000
-
-abbrev two : Float
-two = ofBits binary64 0x4000000000000000
-
-abbrev three : Float
-three = ofBits binary64 0x4008000000000000
-
-abbrev four : Float
-four = ofBits binary64 0x4010000000000000
-
-abbrev five : Float
-five = ofBits binary64 0x4014000000000000
-
-abbrev minus-one : Float
-minus-one = ofBits binary64 0xBFF0000000000000
-
-abbrev minus-half : Float
-minus-half = ofBits binary64 0xBFE0000000000000
-
--- 2 ^ -1000 and 2 ^ 1000
-abbrev tiny : Float
-tiny = ofBits binary64 0x0170000000000000
-
-abbrev huge : Float
-huge = ofBits binary64 0x7E70000000000000
-
-abbrev nought : Float
-nought = floats.nought
 
 abbrev bits : List Float → List ℕ
 bits xs = map (toBits binary64) xs
@@ -97,53 +61,30 @@ abbrev record-of : ℕ → ℕ → ℕ → ℕ → Float → List ℕ
 record-of kind a b s x = kind ∷ 0 ∷ low 2 a ++ (low 2 b ++ (low 4 0 ++ (low 2 s ++ (low 4 0 ++ (low 8 (toBits binary64 x) ++ low 16 0)))))
 
 abbrev resistor : ℕ → ℕ → Float → List ℕ
-resistor a b x = record-of 1 a b 0 x
+resistor a b x = record-of kind.resistor a b 0 x
 
 abbrev current : ℕ → ℕ → Float → List ℕ
-current a b x = record-of 2 a b 0 x
+current a b x = record-of kind.current a b 0 x
 
 abbrev voltage : ℕ → ℕ → Float → ℕ → List ℕ
-voltage a b x s = record-of 3 a b s x
+voltage a b x s = record-of kind.voltage a b s x
 
 abbrev storage : ℕ → ℕ → Float → List ℕ
-storage a b x = record-of 8 a b 0 x
+storage a b x = record-of kind.capacitor a b 0 x
 
 -- ---- runs
-
--- RELTOL 0.001, VNTOL = ABSTOL = 0.000001; TSTEP = FS = 1, TSTART 0, TSTOP 2, ITL3 0, ITL4 10, RMIN 0.1
-abbrev bench : ℕ → Options
-bench itl1 =
-    record {
-      reltol = ofBits binary64 0x3F50624DD2F1A9FC;
-      vntol = ofBits binary64 0x3EB0C6F7A0B5ED8D;
-      abstol = ofBits binary64 0x3EB0C6F7A0B5ED8D;
-      tstart = nought;
-      tstop = two;
-      tstep = one;
-      fs = one;
-      ft = half;
-      rmin = zero-point-one;
-      rmax = one;
-      gmin = nought;
-      boltzmann = nought;
-      charge = one;
-      itl1 = itl1;
-      itl3 = 0;
-      itl4 = 10;
-      budget = 20;
-    }
 
 -- buffers full of fives, which no answer may show
 abbrev fives : ℕ → List Float
 fives k = replicate k five
 
-abbrev run : Bool → ℕ → ℕ → ℕ → List ℕ → result.Result
+abbrev run : Bool → ℕ → ℕ → ℕ → List ℕ → engine.Result
 run transient itl1 nodes srcs s =
     let n = nodes + srcs in
     let m = fives (n * (n + 1)) in
     let y = fives (length s / bytes.recordBytes) in
     let w = fives (4 * (n + 1)) in
-    engine.runOf (bench itl1) (engine.sizesOf transient nodes srcs s [] m m m (fives n) y w) s [] m m (fives n) y w
+    engine.runOf (engine.callOf (bench itl1) transient nodes srcs s [] m (buffersOf m m (fives n) y w))
 
 -- verdict, DC verdict, passes and rows; or the refusal and its place
 abbrev told : Outcome → List ℕ
@@ -152,11 +93,11 @@ told (Refused k i) = k ∷ i ∷ []
 
 -- a DC run: what is told, and the vector
 abbrev dc : ℕ → ℕ → ℕ → List ℕ → List ℕ
-dc itl1 nodes srcs s = let r = run false itl1 nodes srcs s in told (r .outcome) ++ bits (r .vector)
+dc itl1 nodes srcs s = let r = run false itl1 nodes srcs s in told (r .outcome) ++ bits (r .buffers .vector)
 
 -- a transient: what is told, and the rows
 abbrev transient : ℕ → ℕ → ℕ → List ℕ → List ℕ
-transient itl1 nodes srcs s = let r = run true itl1 nodes srcs s in told (r .outcome) ++ bits (r .rows)
+transient itl1 nodes srcs s = let r = run true itl1 nodes srcs s in told (r .outcome) ++ bits (r .buffers .rows)
 
 abbrev divider : List ℕ
 divider = voltage 1 0 four 0 ++ (resistor 1 2 one ++ resistor 2 0 one)
@@ -170,7 +111,7 @@ abbrev point : Float → Float → Point
 point t v = record { time = t; level = v }
 
 abbrev level : Float → Float → List ℕ
-level v t = toBits binary64 (vpwl.patternAt (point nought v ∷ point one four ∷ []) nought minus-one t) ∷ []
+level v t = toBits binary64 (vpwl.patternAt (point nought v ∷ point one four ∷ []) nought minusOne t) ∷ []
 
 abbrev companion : Companion → List ℕ
 companion c = toBits binary64 (c .g) ∷ toBits binary64 (c .i) ∷ []
@@ -182,8 +123,8 @@ judged n m x t = let r = judge.numbersOf n (judge.judgeOf n m x (replicate n t))
 abbrev onDivider : List ℕ
 onDivider =
     let r = run false 10 3 1 divider in
-    let v = set (r .vector) 3 minus-one in
-    judged 4 (r .system) (r .vector) nought ++ (judged 4 (r .system) v half ++ judged 4 (r .system) v one)
+    let v = set (r .buffers .vector) 3 minusOne in
+    judged 4 (r .buffers .system) (r .buffers .vector) nought ++ (judged 4 (r .buffers .system) v half ++ judged 4 (r .buffers .system) v one)
 
 -- row 1: coefficients 0, 2^-1000, 2^1000, 2^1000; all else 0
 abbrev tinyRow : List Float
@@ -214,7 +155,7 @@ cases =
     case (dc 10 2 0 (current 0 1 two ++ resistor 1 0 half)) (0 ∷ 0 ∷ 2 ∷ 0 ∷ bits (nought ∷ one ∷ []))
     ∷ case (dc 0 2 0 (current 0 1 two ++ resistor 1 0 half)) (20 ∷ 20 ∷ 1 ∷ 0 ∷ bits (nought ∷ one ∷ []))
     -- b: 0, 4, 2, -2
-    ∷ case (dc 10 3 1 divider) (0 ∷ 0 ∷ 2 ∷ 0 ∷ bits (nought ∷ four ∷ two ∷ ofBits binary64 0xC000000000000000 ∷ []))
+    ∷ case (dc 10 3 1 divider) (0 ∷ 0 ∷ 2 ∷ 0 ∷ bits (nought ∷ four ∷ two ∷ minusTwo ∷ []))
     -- c: one pass
     ∷ case (dc 10 1 1 (voltage 0 0 five 0)) (0 ∷ 0 ∷ 1 ∷ 0 ∷ bits (nought ∷ nought ∷ []))
     -- d: zeros, settled
@@ -226,21 +167,21 @@ cases =
     ∷ case (agreed (five ∷ nan ∷ []) (nought ∷ nought ∷ [])) (2 ∷ [])
     ∷ case (agreed (nought ∷ one ∷ []) (nought ∷ nan ∷ [])) (0 ∷ [])
     -- g: 2, 0, 4, 0
-    ∷ case (level nought half ++ (level nought one ++ (level nought two ++ level nought minus-half))) (bits (two ∷ nought ∷ four ∷ nought ∷ []))
+    ∷ case (level nought half ++ (level nought one ++ (level nought two ++ level nought minusHalf))) (bits (two ∷ nought ∷ four ∷ nought ∷ []))
     -- h: NaN
     ∷ case (level three nought) (bits (nan ∷ []))
     -- i: g 2, i 6
-    ∷ case (companion (capacitor.companionOf one three half)) (bits (two ∷ ofBits binary64 0x4018000000000000 ∷ []))
+    ∷ case (companion (capacitor.companionOf one three half)) (bits (two ∷ six ∷ []))
     -- j: node 1 is 1, 0.5, 0.75, 0.875 at times 0, 1, 2, 2; eight passes
     ∷ case (transient 10 2 0 (resistor 1 0 one ++ (storage 1 0 one ++ current 0 1 one)))
     (0 ∷ 0 ∷ 8 ∷ 4 ∷ bits (nought ∷ nought ∷ one ∷ one ∷ nought ∷ half ∷ two ∷ nought ∷ ofBits binary64 0x3FE8000000000000 ∷ two ∷ nought ∷ ofBits binary64 0x3FEC000000000000 ∷ []))
     -- k: accepted; row 1; accepted
     ∷ case onDivider (0 ∷ 4 ∷ 0 ∷ 1 ∷ 0 ∷ 4 ∷ [])
     -- l: row 1
-    ∷ case (judged 4 tinyRow (nought ∷ one ∷ one ∷ minus-one ∷ []) nought) (0 ∷ 1 ∷ [])
+    ∷ case (judged 4 tinyRow (nought ∷ one ∷ one ∷ minusOne ∷ []) nought) (0 ∷ 1 ∷ [])
     ∷ []
 
 -- every case's answer is the document's
 answers : all cases ≡ true
-unfolding floats.absoluteOf le.le32 le.le64 le.floatAt loop.copied loop.rowAt checks.badOrder checks.badCounts checks.badRoom checks.refusalOf checks.checkedOf sheet.checkFrom sheet.badSheet sheet.badPoints range.nodesOf range.sourcesOf range.pointsOf range.nodesFit range.sourcesFit range.pointsFit range.elementFault bytes.recordAt bytes.elementOf bytes.usesOf bytes.zeros bytes.restZero bytes.decodeOf row.rowOf kinds.currentWrites kinds.conductanceWrites kinds.voltageWrites kinds.vcvsWrites kinds.vccsWrites kinds.capacitorWrites kinds.diodeWrites write.written write.stamped diodes.biased diodes.biasedAt diodes.diodesOf linear.baseWrites linear.dependentWrites linear.storageWrites linear.basedOn linear.dependentOf linear.storageOf records.writesOf sources.driven sources.drivenAt sources.independentOf stamping.baseOf stamping.completed stamping.linearOf stamping.stampOf capacitor.companionOf vpwl.lastOf vpwl.between vpwl.orZero vpwl.levelOn vpwl.levelAt vpwl.patternAt solve.indexOfNextAbs solve.swapped solve.lessScaled solve.reduced solve.cleared solve.column solve.eliminated solve.dot solve.unknown solve.lastUnknown solve.substituted solve.solution convergence.limit convergence.place convergence.checked convergence.convergenceOf control.dcOver control.dcAfter control.moved control.eased control.shortened control.stepAfter counters.next counters.verdictOf counters.dcVerdictOf machine.tried machine.writtenBy machine.landed machine.dcPass machine.stepPass machine.pass machine.runFor attempt.attemptOf begin.forgotten engine.runOf result.endingOf result.refusedOf work.endOf exact.units judge.total judge.residual judge.named judge.refusalOf judge.judgeOf Ieee.ofBits Ieee.toBits Ieee.add Ieee.sub Ieee.mul Ieee.div Ieee.rem Ieee.lt Ieee.le Ieee.eq Ieee.isNan
+unfolding floats.absoluteOf le.le32 le.le64 le.floatAt loop.copied loop.rowAt checks.badOrder checks.badCounts checks.badRoom checks.sizesRefusal checks.checkedOf sheet.checkFrom sheet.badSheet sheet.badPoints range.nodesOf range.sourcesOf range.pointsOf range.nodesFit range.sourcesFit range.pointsFit range.elementFault bytes.recordAt bytes.elementOf bytes.usesOf bytes.zeros bytes.restZero bytes.decodeOf row.rowOf kinds.currentWrites kinds.conductanceWrites kinds.voltageWrites kinds.vcvsWrites kinds.vccsWrites kinds.capacitorWrites kinds.diodeWrites write.written write.stamped diodes.biased diodes.biasedAt diodes.diodesOf plain.baseWrites plain.dependentWrites plain.storageWrites plain.basedOn plain.dependentOf plain.storageOf records.writesOf sources.driven sources.drivenAt sources.independentOf stamping.baseOf stamping.completed stamping.linearOf stamping.stampOf capacitor.companionOf vpwl.lastOf vpwl.between vpwl.orZero vpwl.levelOn vpwl.levelAt vpwl.patternAt solve.indexOfNextAbs solve.swapped solve.lessScaled solve.reduced solve.cleared solve.column solve.eliminated solve.dot solve.unknown solve.lastUnknown solve.substituted solve.solution convergence.limit convergence.place convergence.checked convergence.convergenceOf control.dcOver control.dcAfter control.moved control.eased control.shortened control.stepAfter counters.next counters.verdictOf counters.dcVerdictOf machine.tried machine.writtenBy machine.landed machine.dcPass machine.stepPass machine.pass machine.runFor attempt.attemptOf begin.forgotten engine.runOf engine.endingOf engine.refusedOf work.endOf exact.units judge.total judge.residual judge.named judge.judgeRefusal judge.judgeOf Ieee.ofBits Ieee.toBits Ieee.add Ieee.sub Ieee.mul Ieee.div Ieee.rem Ieee.lt Ieee.le Ieee.eq Ieee.isNan
 answers = refl

@@ -6,14 +6,15 @@ use mathlib.Core.Bool.{Bool, true, false, cond, _||_}
 use lib.Dec.{eqb}
 use native.Mathlib.Omega.{arith}
 use Rattle.steps.specs.declared.Counters.{Counters}
-use Rattle.steps.specs.Verdicts.{diode, sine}
+use Rattle.numbers.specs.Verdicts.{diodeCurrent, sineRefused}
 use Rattle.steps.specs.Counters.{top, next, going}
-use Rattle.steps.specs.Laws.{next-more, Ends, settles, «runs-out», diverges, shrinks, fills, Fails, «at-diode», «at-sine», Closed}
-use Rattle.machine.specs.State.{State, Job, Attempt}
+use Rattle.steps.specs.laws.Control.{next-more, Ends, settles, «runs-out», diverges, shrinks, fills, Fails, «at-diode», «at-sine», Closed}
+use Rattle.steps.specs.declared.Job.{Job}
+use Rattle.machine.specs.State.{State, Attempt}
 use Rattle.machine.specs.Machine.{pass, runFor}
-use Rattle.machine.specs.Budget.{pass-stopped, run-stopped}
-use Rattle.machine.specs.Kept.{Own, faultAt, Failed, pass-solved, pass-failed}
-use Rattle.machine.specs.OneVerdict.{Told, pass-told}
+use Rattle.machine.specs.laws.Budget.{pass-stopped, run-stopped}
+use Rattle.machine.specs.laws.Kept.{Own, faultAt, Failed, pass-solved, pass-failed}
+use Rattle.machine.specs.laws.OneVerdict.{Told, pass-told}
 
 -- the units of a budget of n that a run uses: one for each pass of a run that is going
 unfoldable pub used : Attempt → Job → ℕ → State → ℕ
@@ -22,7 +23,7 @@ used f j (suc n) s = cond (going (s .counters)) (suc (used f j n (pass f j s))) 
 
 -- 1 for a run that ended in a pass that failed, 22 or 26
 abbrev pub failing : ℕ → Bool
-failing v = eqb v diode || eqb v sine
+failing v = eqb v diodeCurrent || eqb v sineRefused
 
 abbrev pub lost : Counters → ℕ
 lost c = cond (going c) 0 (cond (failing (c .verdict)) 1 0)

@@ -1,0 +1,2 @@
+-- The bench's cases, computed from the definitions.
+pub mod Cases

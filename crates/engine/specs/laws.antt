@@ -1,0 +1,3 @@
+-- What is proved of a call.
+pub mod Engine
+pub mod Promises

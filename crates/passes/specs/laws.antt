@@ -1,0 +1,3 @@
+-- What is proved of the lengths that fit, and of the attempt.
+pub mod Sized
+pub mod Attempt
