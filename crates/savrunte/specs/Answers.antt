@@ -1,5 +1,7 @@
 -- The answers of the C door: each enum answer as document 01's numbers. Clients cite the ..Answer definitions.
 use Prim.Native.Nat.{ℕ}
+use Rattle.numbers.specs.Refusals.{byRoom, byArgument}
+use Rattle.numbers.specs.Verdicts.{diodeCurrent}
 use Rattle.num.specs.Floats.{nought}
 use Rattle.judge.specs.declared.Judged.{Judged}
 use Rattle.judge.specs.declared.Judged.the-variants.{Accepted, Rejected, Refused as RefusedJudge}
@@ -18,13 +20,13 @@ use Rattle.savrunte.specs.declared.ConvergenceAnswer.{ConvergenceAnswer}
 
 unfoldable pub sinAnswer : Sine → SinAnswer
 sinAnswer (Value y) = record { refusal = 0; value = y }
-sinAnswer Refused = record { refusal = 12; value = nought }
+sinAnswer Refused = record { refusal = byArgument; value = nought }
 
 unfoldable pub convergenceAnswer : Convergence → ConvergenceAnswer
 convergenceAnswer Yes = record { refusal = 0; state = 0 }
 convergenceAnswer No = record { refusal = 0; state = 1 }
 convergenceAnswer Error = record { refusal = 0; state = 2 }
-convergenceAnswer RefusedCheck = record { refusal = 5; state = 0 }
+convergenceAnswer RefusedCheck = record { refusal = byRoom; state = 0 }
 
 -- the row count stands for "every row holds"
 unfoldable pub judgeAnswer : ℕ → Judged → JudgeAnswer
@@ -37,4 +39,4 @@ companion c = record { g = c .g; i = c .i }
 
 unfoldable pub diodeAnswer : Linear → DiodeAnswer
 diodeAnswer (Model g i m) = record { verdict = 0; g = g; i = i; memory = m }
-diodeAnswer NotFinite = record { verdict = 22; g = nought; i = nought; memory = nought }
+diodeAnswer NotFinite = record { verdict = diodeCurrent; g = nought; i = nought; memory = nought }

@@ -1,3 +1,4 @@
+-- The C door's answers, as numbers. Read Runs and Spreads (a run's and a call's), then Answers (the leaves).
 pub mod Answers
 pub mod Runs
 pub mod Spreads

@@ -6,7 +6,8 @@ ghost use mathlib.Core.List.{[]};
 ghost use Prim.Native.Nat.{_/_};
 ghost use lib.ListN.{length};
 ghost use Rattle.convergence.specs.Convergence.{convergenceOf};
-ghost use Rattle.engine.specs.Engine.{sizesOf, runOf, Scratched};
+ghost use Rattle.machine.specs.State.{buffersOf};
+ghost use Rattle.engine.specs.Engine.{callOf, runOf, Scratched};
 ghost use Rattle.functions.specs.Exp.{expOf};
 ghost use Rattle.functions.specs.Ln.{lnOf};
 ghost use Rattle.functions.specs.Sin.{sinOf};
@@ -16,7 +17,7 @@ ghost use Rattle.models.specs.Diode.{linearized};
 ghost use Rattle.models.specs.Vpwl.{patternAt, pointsFrom};
 ghost use Rattle.judge.specs.Judge.{judgeOf};
 ghost use Rattle.solve.specs.Solve.{solveOf, solvedAs};
-ghost use Rattle.spreads.specs.Spreads.{lentOf, spreadsOf, Scratched as SpreadsScratched};
+ghost use Rattle.spreads.specs.Spreads.{resultsOf, scratchOf, batchOf, spreadsOf, ScratchKept};
 ghost use Rattle.savrunte.specs.Runs.{dcAnswer, transientAnswer, dcOf, dcResult, transientOf, transientResult};
 ghost use Rattle.savrunte.specs.Spreads.{spreadsAnswer, doorOf, doorResult};
 ghost use Rattle.savrunte.specs.Answers.{sinAnswer, convergenceAnswer, judgeAnswer, companion, diodeAnswer};
@@ -89,6 +90,7 @@ pub struct SpreadsAnswer {
     pub largest_at: u64,
 }
 
+// The DC operating point of a sheet.
 #[no_mangle]
 pub extern "C" fn savrunte_dc(
     sheet: &[u8],
@@ -102,8 +104,15 @@ pub extern "C" fn savrunte_dc(
     vector: &mut [f64],
     memory: &mut [f64],
 ) -> DcAnswer
-    ensures all { λ r. ⌜ dcOf r (now (base .exit)) (now (system .exit)) (now (vector .exit)) (now (memory .exit)) ≡ dcResult (runOf options (sizesOf false nodes sources (now (sheet .entry)) (now (points .entry)) (now (base .entry)) (now (system .entry)) (now (elimination .entry)) (now (vector .entry)) (now (memory .entry)) []) (now (sheet .entry)) (now (points .entry)) (now (base .entry)) (now (system .entry)) (now (vector .entry)) (now (memory .entry)) []) ⌝ }
-    ensures scratch { λ r. ⌜ Scratched options (sizesOf false nodes sources (now (sheet .entry)) (now (points .entry)) (now (base .entry)) (now (system .entry)) (now (elimination .entry)) (now (vector .entry)) (now (memory .entry)) []) (now (sheet .entry)) (now (elimination .entry)) (now (elimination .exit)) ⌝ }
+    ensures all { λ r. ⌜
+        dcOf r (buffersOf (now (base .exit)) (now (system .exit)) (now (vector .exit)) (now (memory .exit)) [])
+        ≡ dcResult (runOf (callOf options false nodes sources (now (sheet .entry)) (now (points .entry)) (now (elimination .entry))
+        (buffersOf (now (base .entry)) (now (system .entry)) (now (vector .entry)) (now (memory .entry)) [])))
+        ⌝ }
+    ensures scratch { λ r. ⌜
+        Scratched (callOf options false nodes sources (now (sheet .entry)) (now (points .entry)) (now (elimination .entry))
+        (buffersOf (now (base .entry)) (now (system .entry)) (now (vector .entry)) (now (memory .entry)) [])) (now (elimination .exit))
+        ⌝ }
 {
     let r = engine::dc_operating_point(
         sheet,
@@ -120,6 +129,7 @@ pub extern "C" fn savrunte_dc(
     dc_answer(r)
 }
 
+// The transient analysis of a sheet: DC first, then steps, whose rows go to `rows`.
 #[no_mangle]
 pub extern "C" fn savrunte_transient(
     sheet: &[u8],
@@ -134,8 +144,15 @@ pub extern "C" fn savrunte_transient(
     memory: &mut [f64],
     rows: &mut [f64],
 ) -> TransientAnswer
-    ensures all { λ r. ⌜ transientOf r (now (base .exit)) (now (system .exit)) (now (vector .exit)) (now (memory .exit)) (now (rows .exit)) ≡ transientResult (runOf options (sizesOf true nodes sources (now (sheet .entry)) (now (points .entry)) (now (base .entry)) (now (system .entry)) (now (elimination .entry)) (now (vector .entry)) (now (memory .entry)) (now (rows .entry))) (now (sheet .entry)) (now (points .entry)) (now (base .entry)) (now (system .entry)) (now (vector .entry)) (now (memory .entry)) (now (rows .entry))) ⌝ }
-    ensures scratch { λ r. ⌜ Scratched options (sizesOf true nodes sources (now (sheet .entry)) (now (points .entry)) (now (base .entry)) (now (system .entry)) (now (elimination .entry)) (now (vector .entry)) (now (memory .entry)) (now (rows .entry))) (now (sheet .entry)) (now (elimination .entry)) (now (elimination .exit)) ⌝ }
+    ensures all { λ r. ⌜
+        transientOf r (buffersOf (now (base .exit)) (now (system .exit)) (now (vector .exit)) (now (memory .exit)) (now (rows .exit)))
+        ≡ transientResult (runOf (callOf options true nodes sources (now (sheet .entry)) (now (points .entry)) (now (elimination .entry))
+        (buffersOf (now (base .entry)) (now (system .entry)) (now (vector .entry)) (now (memory .entry)) (now (rows .entry)))))
+        ⌝ }
+    ensures scratch { λ r. ⌜
+        Scratched (callOf options true nodes sources (now (sheet .entry)) (now (points .entry)) (now (elimination .entry))
+        (buffersOf (now (base .entry)) (now (system .entry)) (now (vector .entry)) (now (memory .entry)) (now (rows .entry)))) (now (elimination .exit))
+        ⌝ }
 {
     let r = engine::transient_analysis(
         sheet,
@@ -153,6 +170,7 @@ pub extern "C" fn savrunte_transient(
     transient_answer(r)
 }
 
+// All spreads in one call: every job run, and the report over them.
 #[no_mangle]
 pub extern "C" fn savrunte_spreads(
     sheets: &[u8],
@@ -174,8 +192,18 @@ pub extern "C" fn savrunte_spreads(
     plus: &mut [u64],
     minus: &mut [u64],
 ) -> SpreadsAnswer
-    ensures all { λ r. ⌜ doorOf r (now (vectors .exit)) (now (numbers .exit)) (now (places .exit)) (now (passes .exit)) (now (counts .exit)) (now (plus .exit)) (now (minus .exit)) ≡ doorResult (spreadsOf options (lentOf jobs nodes sources unknown (now (sheets .entry)) (now (points .entry)) (now (base .entry)) (now (system .entry)) (now (elimination .entry)) (now (memory .entry)) (now (vectors .entry)) (now (numbers .entry)) (now (places .entry)) (now (passes .entry)) (now (counts .entry)) (now (plus .entry)) (now (minus .entry))) (now (sheets .entry)) (now (points .entry)) (now (vectors .entry)) (now (numbers .entry)) (now (places .entry)) (now (passes .entry)) (now (counts .entry)) (now (plus .entry)) (now (minus .entry))) ⌝ }
-    ensures scratch { λ r. ⌜ SpreadsScratched options (lentOf jobs nodes sources unknown (now (sheets .entry)) (now (points .entry)) (now (base .entry)) (now (system .entry)) (now (elimination .entry)) (now (memory .entry)) (now (vectors .entry)) (now (numbers .entry)) (now (places .entry)) (now (passes .entry)) (now (counts .entry)) (now (plus .entry)) (now (minus .entry))) (now (base .entry)) (now (system .entry)) (now (elimination .entry)) (now (memory .entry)) (now (base .exit)) (now (system .exit)) (now (elimination .exit)) (now (memory .exit)) ⌝ }
+    ensures all { λ r. ⌜
+        doorOf r (resultsOf (now (vectors .exit)) (now (numbers .exit)) (now (places .exit)) (now (passes .exit)) (now (counts .exit)) (now (plus .exit)) (now (minus .exit)))
+        ≡ doorResult (spreadsOf (batchOf options jobs nodes sources unknown (now (sheets .entry)) (now (points .entry))
+        (scratchOf (now (base .entry)) (now (system .entry)) (now (elimination .entry)) (now (memory .entry)))
+        (resultsOf (now (vectors .entry)) (now (numbers .entry)) (now (places .entry)) (now (passes .entry)) (now (counts .entry)) (now (plus .entry)) (now (minus .entry)))))
+        ⌝ }
+    ensures scratch { λ r. ⌜
+        ScratchKept (batchOf options jobs nodes sources unknown (now (sheets .entry)) (now (points .entry))
+        (scratchOf (now (base .entry)) (now (system .entry)) (now (elimination .entry)) (now (memory .entry)))
+        (resultsOf (now (vectors .entry)) (now (numbers .entry)) (now (places .entry)) (now (passes .entry)) (now (counts .entry)) (now (plus .entry)) (now (minus .entry))))
+        (scratchOf (now (base .exit)) (now (system .exit)) (now (elimination .exit)) (now (memory .exit)))
+        ⌝ }
 {
     let r = spreads::spreads(
         sheets,
@@ -232,7 +260,7 @@ pub extern "C" fn savrunte_sin(x: f64) -> SinAnswer
             value: y,
         },
         Sine::Refused => SinAnswer {
-            refusal: 12,
+            refusal: numbers::refusal::ARGUMENT as u64,
             value: 0.0,
         },
     }
@@ -262,7 +290,7 @@ pub extern "C" fn savrunte_convergence(
             state: 2,
         },
         Convergence::Refused => ConvergenceAnswer {
-            refusal: 5,
+            refusal: numbers::refusal::ROOM as u64,
             state: 0,
         },
     }
@@ -303,7 +331,7 @@ pub extern "C" fn savrunte_diode(
             memory: memory,
         },
         Linear::NotFinite => DiodeAnswer {
-            verdict: 22,
+            verdict: numbers::verdict::DIODE_CURRENT as u64,
             g: 0.0,
             i: 0.0,
             memory: 0.0,

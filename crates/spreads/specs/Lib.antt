@@ -1,10 +1,6 @@
-pub mod Each
-pub mod Single
-pub mod Settled
+-- What a call of spreads answers and leaves. Read Spreads, then Refusals, Runs and Tally; `laws` holds what follows from them.
 pub mod Runs
 pub mod Refusals
 pub mod Tally
 pub mod Spreads
-pub mod Less
-pub mod Report
-pub mod Promises
+pub mod laws

@@ -6,9 +6,9 @@ mod runs; // runs.rt: the jobs, one after the other
 mod tally; // tally.rt: the report
 
 ghost use mathlib.Core.Path.{_≡_};
-ghost use Rattle.spreads.specs.Spreads.{lentOf, leftOf, spreadsOf, Scratched};
+ghost use Rattle.spreads.specs.Spreads.{resultsOf, scratchOf, batchOf, lengths, batchResultOf, spreadsOf, ScratchKept};
+use numbers::limit::SUM_LIMBS;
 use options::Options;
-use refusals::LIMBS;
 use refusals::Lent;
 
 // Over the settled jobs: how many, and the smallest and the largest of the chosen unknown with the job where it stands, the earliest on a tie. All 0 where none settled.
@@ -48,8 +48,18 @@ pub fn spreads(
     plus: &mut [u64],
     minus: &mut [u64],
 ) -> Spread
-    ensures all { λ r. ⌜ leftOf r (now (vectors .exit)) (now (numbers .exit)) (now (places .exit)) (now (passes .exit)) (now (counts .exit)) (now (plus .exit)) (now (minus .exit)) ≡ spreadsOf o (lentOf jobs nodes sources unknown (now (sheets .entry)) (now (points .entry)) (now (base .entry)) (now (system .entry)) (now (elimination .entry)) (now (memory .entry)) (now (vectors .entry)) (now (numbers .entry)) (now (places .entry)) (now (passes .entry)) (now (counts .entry)) (now (plus .entry)) (now (minus .entry))) (now (sheets .entry)) (now (points .entry)) (now (vectors .entry)) (now (numbers .entry)) (now (places .entry)) (now (passes .entry)) (now (counts .entry)) (now (plus .entry)) (now (minus .entry)) ⌝ }
-    ensures scratch { λ r. ⌜ Scratched o (lentOf jobs nodes sources unknown (now (sheets .entry)) (now (points .entry)) (now (base .entry)) (now (system .entry)) (now (elimination .entry)) (now (memory .entry)) (now (vectors .entry)) (now (numbers .entry)) (now (places .entry)) (now (passes .entry)) (now (counts .entry)) (now (plus .entry)) (now (minus .entry))) (now (base .entry)) (now (system .entry)) (now (elimination .entry)) (now (memory .entry)) (now (base .exit)) (now (system .exit)) (now (elimination .exit)) (now (memory .exit)) ⌝ }
+    ensures all { λ r. ⌜
+        batchResultOf r (resultsOf (now (vectors .exit)) (now (numbers .exit)) (now (places .exit)) (now (passes .exit)) (now (counts .exit)) (now (plus .exit)) (now (minus .exit)))
+        ≡ spreadsOf (batchOf o jobs nodes sources unknown (now (sheets .entry)) (now (points .entry))
+        (scratchOf (now (base .entry)) (now (system .entry)) (now (elimination .entry)) (now (memory .entry)))
+        (resultsOf (now (vectors .entry)) (now (numbers .entry)) (now (places .entry)) (now (passes .entry)) (now (counts .entry)) (now (plus .entry)) (now (minus .entry))))
+        ⌝ }
+    ensures scratch { λ r. ⌜
+        ScratchKept (batchOf o jobs nodes sources unknown (now (sheets .entry)) (now (points .entry))
+        (scratchOf (now (base .entry)) (now (system .entry)) (now (elimination .entry)) (now (memory .entry)))
+        (resultsOf (now (vectors .entry)) (now (numbers .entry)) (now (places .entry)) (now (passes .entry)) (now (counts .entry)) (now (plus .entry)) (now (minus .entry))))
+        (scratchOf (now (base .exit)) (now (system .exit)) (now (elimination .exit)) (now (memory .exit)))
+        ⌝ }
 {
     let z = Lent {
         jobs,
@@ -107,9 +117,23 @@ fn answer(
     plus: &mut [u64],
     minus: &mut [u64],
 ) -> Spread
-    requires { ⌜ z ≡ lentOf (z .jobs) (z .nodes) (z .sources) (z .unknown) (now sheets) (now points) (now base) (now system) (now elimination) (now memory) (now vectors) (now numbers) (now places) (now passes) (now counts) (now plus) (now minus) ⌝ }
-    ensures all { λ r. ⌜ leftOf r (now (vectors .exit)) (now (numbers .exit)) (now (places .exit)) (now (passes .exit)) (now (counts .exit)) (now (plus .exit)) (now (minus .exit)) ≡ spreadsOf o z (now (sheets .entry)) (now (points .entry)) (now (vectors .entry)) (now (numbers .entry)) (now (places .entry)) (now (passes .entry)) (now (counts .entry)) (now (plus .entry)) (now (minus .entry)) ⌝ }
-    ensures scratch { λ r. ⌜ Scratched o z (now (base .entry)) (now (system .entry)) (now (elimination .entry)) (now (memory .entry)) (now (base .exit)) (now (system .exit)) (now (elimination .exit)) (now (memory .exit)) ⌝ }
+    requires { ⌜
+        z ≡ lengths (batchOf o (z .jobs) (z .nodes) (z .sources) (z .unknown) (now sheets) (now points)
+        (scratchOf (now base) (now system) (now elimination) (now memory))
+        (resultsOf (now vectors) (now numbers) (now places) (now passes) (now counts) (now plus) (now minus)))
+        ⌝ }
+    ensures all { λ r. ⌜
+        batchResultOf r (resultsOf (now (vectors .exit)) (now (numbers .exit)) (now (places .exit)) (now (passes .exit)) (now (counts .exit)) (now (plus .exit)) (now (minus .exit)))
+        ≡ spreadsOf (batchOf o (z .jobs) (z .nodes) (z .sources) (z .unknown) (now (sheets .entry)) (now (points .entry))
+        (scratchOf (now (base .entry)) (now (system .entry)) (now (elimination .entry)) (now (memory .entry)))
+        (resultsOf (now (vectors .entry)) (now (numbers .entry)) (now (places .entry)) (now (passes .entry)) (now (counts .entry)) (now (plus .entry)) (now (minus .entry))))
+        ⌝ }
+    ensures scratch { λ r. ⌜
+        ScratchKept (batchOf o (z .jobs) (z .nodes) (z .sources) (z .unknown) (now (sheets .entry)) (now (points .entry))
+        (scratchOf (now (base .entry)) (now (system .entry)) (now (elimination .entry)) (now (memory .entry)))
+        (resultsOf (now (vectors .entry)) (now (numbers .entry)) (now (places .entry)) (now (passes .entry)) (now (counts .entry)) (now (plus .entry)) (now (minus .entry))))
+        (scratchOf (now (base .exit)) (now (system .exit)) (now (elimination .exit)) (now (memory .exit)))
+        ⌝ }
 {
     let k = refusals::refusal(o, z);
     if k != 0 {
@@ -142,7 +166,7 @@ fn answer(
         z.jobs,
         n,
         z.unknown,
-        &mut plus[..LIMBS],
-        &mut minus[..LIMBS],
+        &mut plus[..SUM_LIMBS],
+        &mut minus[..SUM_LIMBS],
     ))
 }

@@ -1,19 +1,14 @@
 // What the whole call refuses before it touches anything: 13, then 1 to 5 as for a single job, with uneven sheets among 2 and the result buffers among 5.
 use checks::Sizes;
+use numbers::limit::JOB_NUMBERS;
+use numbers::limit::JOBS;
+use numbers::limit::SUM_LIMBS;
 use options::Options;
 ghost use mathlib.Core.Path.{_≡_};
 ghost use Prim.Native.Nat.{_+_, _≤_};
 ghost use lib.Dec.{leb};
-ghost use Rattle.spreads.specs.Refusals.{oneJob, badJobs, shortResults, refusalOf};
-
-// The greatest number of jobs.
-const JOBS: usize = 256;
-
-// The numbers that a job can have are 0 to 26.
-pub const NUMBERS: usize = 27;
-
-// Limbs in a row of the exact sum.
-pub const LIMBS: usize = 66;
+ghost use Rattle.numbers.specs.Limits.{mostUnknowns, mostJobs};
+ghost use Rattle.spreads.specs.Refusals.{oneJob, badJobs, shortResults, callRefusal};
 
 // The counts of a call and the lengths of what is lent to it.
 pub struct Lent {
@@ -38,23 +33,23 @@ pub struct Lent {
 
 // The refusal, 13 or 1 to 5, or 0 where there is none.
 pub fn refusal(o: Options, z: Lent) -> u8
-    ensures { λ r. ⌜ r ≡ refusalOf o z ⌝ }
+    ensures { λ r. ⌜ r ≡ callRefusal o z ⌝ }
 {
     if bad_jobs(z.jobs, z.unknown, z.nodes, z.sources) {
-        return 13;
+        return numbers::refusal::JOBS;
     }
     if checks::bad_order(z.nodes, z.sources) {
-        return 1;
+        return numbers::refusal::ORDER;
     }
     if z.sheets % z.jobs != 0 {
-        return 2;
+        return numbers::refusal::SHEET;
     }
     let k = checks::refusal(o, one_job(z));
     if k != 0 {
         return k;
     }
     if short_results(z) {
-        return 5;
+        return numbers::refusal::ROOM;
     }
     0
 }
@@ -78,7 +73,7 @@ fn outside(unknown: usize, nodes: usize, sources: usize) -> bool
 
 // A single job's part of what is lent.
 fn one_job(z: Lent) -> Sizes
-    requires { ⌜ (z .nodes + z .sources ≤ 48) × (1 ≤ z .jobs) ⌝ }
+    requires { ⌜ (z .nodes + z .sources ≤ mostUnknowns) × (1 ≤ z .jobs) ⌝ }
     ensures { λ r. ⌜ r ≡ oneJob z ⌝ }
 {
     Sizes {
@@ -98,11 +93,11 @@ fn one_job(z: Lent) -> Sizes
 
 // Whether a result buffer is too short.
 fn short_results(z: Lent) -> bool
-    requires { ⌜ (z .nodes + z .sources ≤ 48) × (z .jobs ≤ 256) ⌝ }
+    requires { ⌜ (z .nodes + z .sources ≤ mostUnknowns) × (z .jobs ≤ mostJobs) ⌝ }
     ensures { λ r. ⌜ r ≡ shortResults z ⌝ }
 {
     let n = z.nodes + z.sources;
     let lists = (z.numbers < z.jobs) | (z.places < z.jobs) | (z.passes < z.jobs);
-    let sums = (z.counts < NUMBERS) | (z.plus < LIMBS) | (z.minus < LIMBS);
+    let sums = (z.counts < JOB_NUMBERS) | (z.plus < SUM_LIMBS) | (z.minus < SUM_LIMBS);
     (z.vectors < z.jobs * n) | lists | sums
 }

@@ -1,15 +1,17 @@
 // The report over the jobs' numbers and vectors: how many have each number, and over the settled ones the exact sum, the smallest and the largest of the chosen unknown.
 use super::Report;
-use super::refusals::NUMBERS;
+use numbers::limit::JOB_NUMBERS;
+use numbers::verdict::SETTLED;
 ghost use mathlib.Core.Path.{_≡_};
 ghost use mathlib.Core.Bool.{cond};
 ghost use mathlib.Core.List.{_++_};
 ghost use Prim.Native.Nat.{_+_, _-_, _^_, _≤_, _<_};
 ghost use lib.Dec.{eqb};
 ghost use lib.ListN.{length, drop};
-ghost use Rattle.exact.specs.Limbs.{limbsOf};
-ghost use Rattle.spreads.specs.Each.{each};
-ghost use Rattle.spreads.specs.Tally.{none, numberIn, valueIn, howMany, lower as lowerOf, upper as upperOf, withJob, taken, stepOf, reportOf, sumOf, Readable};
+ghost use Rattle.numbers.specs.Limits.{mostJobs, jobNumbers, sumLimbs};
+ghost use Rattle.numbers.specs.Verdicts.{settled};
+ghost use Rattle.loops.specs.Each.{each};
+ghost use Rattle.spreads.specs.Tally.{nothing as nothingOf, numberIn, valueIn, howMany, lower as lowerOf, upper as upperOf, withJob, taken, totalsOf, totalsOver, Summable};
 
 // A value, and the job where it stands.
 pub struct Peak {
@@ -19,10 +21,10 @@ pub struct Peak {
 
 // Puts down for each number from 0 to 26 how many of the first `jobs` have it.
 pub fn count_all(numbers: &[u64], jobs: usize, counts: &mut [u64])
-    requires { ⌜ (jobs ≤ length (now numbers)) × (27 ≤ length (now counts)) ⌝ }
-    ensures { λ _. ⌜ now (counts .exit) ≡ each (howMany (numberIn (now (numbers .entry))) jobs) 27 ++ drop 27 (now (counts .entry)) ⌝ }
+    requires { ⌜ (jobs ≤ length (now numbers)) × (jobNumbers ≤ length (now counts)) ⌝ }
+    ensures { λ _. ⌜ now (counts .exit) ≡ each (howMany (numberIn (now (numbers .entry))) jobs) jobNumbers ++ drop jobNumbers (now (counts .entry)) ⌝ }
 {
-    for k in 0..NUMBERS {
+    for k in 0..JOB_NUMBERS {
         counts[k] = count(numbers, jobs, k as u64);
     }
 }
@@ -60,8 +62,11 @@ pub fn sum_up(
     plus: &mut [u64],
     minus: &mut [u64],
 ) -> Report
-    requires { ⌜ Readable jobs n unknown (now numbers) (now vectors) × (length (now plus) ≡ 66) × (length (now minus) ≡ 66) ⌝ }
-    ensures { λ r. ⌜ stepOf r (now (plus .exit)) (now (minus .exit)) ≡ stepOf (reportOf (numberIn (now (numbers .entry))) (valueIn n unknown (now (vectors .entry))) jobs) (limbsOf 66 (sumOf (numberIn (now (numbers .entry))) (valueIn n unknown (now (vectors .entry))) jobs .plus)) (limbsOf 66 (sumOf (numberIn (now (numbers .entry))) (valueIn n unknown (now (vectors .entry))) jobs .minus)) ⌝ }
+    requires { ⌜ Summable jobs n unknown (now numbers) (now vectors) × (length (now plus) ≡ sumLimbs) × (length (now minus) ≡ sumLimbs) ⌝ }
+    ensures { λ r. ⌜
+        totalsOf r (now (plus .exit)) (now (minus .exit))
+        ≡ totalsOver (numberIn (now (numbers .entry))) (valueIn n unknown (now (vectors .entry))) jobs
+        ⌝ }
 {
     exact::clear(plus);
     exact::clear(minus);
@@ -75,7 +80,7 @@ pub fn sum_up(
 
 // The report over no job.
 fn nothing() -> Report
-    ensures { λ r. ⌜ r ≡ none ⌝ }
+    ensures { λ r. ⌜ r ≡ nothingOf ⌝ }
 {
     Report {
         settled: 0,
@@ -88,10 +93,10 @@ fn nothing() -> Report
 
 // Takes in job j with the value x, where its number says that it settled.
 fn take_in(r: Report, number: u64, j: u64, x: f64, plus: &mut [u64], minus: &mut [u64]) -> Report
-    requires { ⌜ r .settled < 256 ⌝ }
-    ensures { λ a. ⌜ stepOf a (now (plus .exit)) (now (minus .exit)) ≡ taken (eqb number 0) j x r (now (plus .entry)) (now (minus .entry)) ⌝ }
+    requires { ⌜ r .settled < mostJobs ⌝ }
+    ensures { λ a. ⌜ totalsOf a (now (plus .exit)) (now (minus .exit)) ≡ taken (eqb number settled) j x r (now (plus .entry)) (now (minus .entry)) ⌝ }
 {
-    if number != 0 {
+    if number != SETTLED as u64 {
         return r;
     }
     exact::keep(plus, minus, x);
@@ -100,7 +105,7 @@ fn take_in(r: Report, number: u64, j: u64, x: f64, plus: &mut [u64], minus: &mut
 
 // The report with one settled job more.
 fn with_job(r: Report, j: u64, x: f64) -> Report
-    requires { ⌜ r .settled < 256 ⌝ }
+    requires { ⌜ r .settled < mostJobs ⌝ }
     ensures { λ a. ⌜ a ≡ withJob j x r ⌝ }
 {
     if r.settled == 0 {

@@ -1,4 +1,4 @@
-use mathlib.Core.Path.{sym, ap, _∙_}
+use mathlib.Core.Path.{ap}
 use Rattle.savrunte.specs.Answers.{companion}
 use borrow.Author.Needs.{needs}
 use Rattle.savrunte.proofs.savrunte_capacitor.Statement.{statement}

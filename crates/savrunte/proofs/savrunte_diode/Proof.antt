@@ -14,4 +14,4 @@ returns-2 c = ap diodeAnswer (sym (c .enum-told .given .1) ∙ c .before .before
 
 pub savrunte-diode-spec : {M : Type 1} → statement M
 savrunte-diode-spec =
-    tie.close (tie.spec (λ c κs. search needs) (λ c. search needs) (λ c. search needs) returns returns-2)
+    tie.close (tie.spec (λ c κs. search needs) (λ c. search needs) (λ c. search needs) (λ c. search needs) returns returns-2)

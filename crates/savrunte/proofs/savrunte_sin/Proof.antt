@@ -13,4 +13,4 @@ unfolding sinAnswer
 returns-2 c = ap sinAnswer (sym (c .enum-told .given .1) ∙ c .before .before .sin .ensures)
 
 pub savrunte-sin-spec : {M : Type 1} → statement M
-savrunte-sin-spec = tie.close (tie.spec (λ c κs. search needs) (λ c. search needs) (λ c. search needs) returns returns-2)
+savrunte-sin-spec = tie.close (tie.spec (λ c κs. search needs) (λ c. search needs) (λ c. search needs) (λ c. search needs) returns returns-2)

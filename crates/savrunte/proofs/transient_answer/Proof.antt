@@ -1,5 +1,4 @@
-use mathlib.Core.Path.{_≡_, sym, ap, _∙_}
-use Rattle.engine.specs.Result.{Result}
+use mathlib.Core.Path.{sym, ap}
 use Rattle.savrunte.specs.Runs.{transientAnswer}
 use borrow.Author.Needs.{needs}
 use Rattle.savrunte.proofs.transient_answer.Statement.{statement}

@@ -1,40 +1,42 @@
 -- `spreads::answer` meets its contract: a refusal changes nothing; else the report reads what the runs leave. Assumes nothing.
 use Prim.Native.Nat.{_+_, _*_, _/_}
-use mathlib.Core.Path.{_≡_, refl, sym, _∙_}
+use mathlib.Core.Path.{_≡_, refl, sym, ap, _∙_}
 use native.Mathlib.Nat.{lt-of-le-of-lt, mul-le-mul}
 use native.Mathlib.Omega.{arith}
 use lib.Dec.{lit<}
 use lib.ListN.{drop}
 use lib.Seq.{length-take-le, drop-at}
 use Rattle.sheet.specs.Record.{recordBytes}
-use Rattle.spreads.specs.declared.refusals.Lent.{Lent}
-use Rattle.spreads.specs.Refusals.{order, bytes, refusalOf, Fine, fine}
-use Rattle.spreads.specs.Spreads.{lentOf, call-refused, call-done}
+use Rattle.spreads.specs.Refusals.{bytes, callRefusal}
+use Rattle.spreads.specs.laws.Refusals.{CallFine, call-fine}
+use Rattle.spreads.specs.Spreads.{resultsOf, scratchOf, Batch, batchOf, lengths, batchRefusal, matrixCells}
+use Rattle.spreads.specs.laws.Spreads.{call-refused, call-done}
 use Rattle.spreads.proofs.Whole.{readable, whole}
 use borrow.Author.Needs.{needs}
 use Rattle.spreads.proofs.answer.Statement.{statement}
 use Rattle.spreads.proofs.answer.Tie as tie
 
--- the lengths of what is lent, and what holds of them once nothing was refused
-abbrev Z : tie.Start → Lent
-Z s =
+-- the call, and what holds of its lengths once nothing was refused
+abbrev B : tie.Start → Batch
+B s =
     let a = s .args in
-    lentOf (a .z .jobs) (a .z .nodes) (a .z .sources) (a .z .unknown) (a .sheets .now) (a .points .now) (a .base .now) (a .system .now) (a .elimination .now) (a .memory .now) (a .vectors .now) (a .numbers .now) (a .places .now) (a .passes .now) (a .counts .now) (a .plus .now) (a .minus .now)
+    batchOf (a .o) (a .z .jobs) (a .z .nodes) (a .z .sources) (a .z .unknown) (a .sheets .now) (a .points .now) (scratchOf (a .base .now) (a .system .now) (a .elimination .now) (a .memory .now))
+    (resultsOf (a .vectors .now) (a .numbers .now) (a .places .now) (a .passes .now) (a .counts .now) (a .plus .now) (a .minus .now))
 
 abbrev Begin : tie.Else1 → tie.Start
 Begin c = c .before .before .before .before .before .before .before .before .before .before .before .before .before .before .before
 
-none : (c : tie.Else1) → refusalOf (Begin c .args .o) (Z (Begin c)) ≡ 0
-none c = rw (Begin c .pre) at (sym (c .before .refusal .ensures) ∙ c .if1 .left)
+none : (c : tie.Else1) → batchRefusal (B (Begin c)) ≡ 0
+none c = sym (ap (callRefusal (Begin c .args .o)) (Begin c .pre)) ∙ (sym (c .before .refusal .ensures) ∙ c .if1 .left)
 
-ok : (c : tie.Else1) → Fine (Begin c .args .o) (Z (Begin c))
-ok c = fine _ _ (none c)
+ok : (c : tie.Else1) → CallFine (Begin c .args .o) (lengths (B (Begin c)))
+ok c = call-fine _ _ (none c)
 
 returns : tie.Need-returns
-returns c = let s = c .before .before .before .before .before .before .before .before .before .before .before .before .before .before .before in
-    let a = s .args in (
-      call-refused (a .o) (a .z) (a .sheets .now) (a .points .now) (a .vectors .now) (a .numbers .now) (a .places .now) (a .passes .now) (a .counts .now) (a .plus .now) (a .minus .now) _ (c .before .refusal .ensures) (c .if1 .taken),
-      record { base = refl; system = refl; elimination = refl; memory = refl; kept = λ _. (refl, refl, refl, refl) },
+returns c =
+    let s = c .before .before .before .before .before .before .before .before .before .before .before .before .before .before .before in (
+      call-refused (B s) _ (c .before .refusal .ensures ∙ ap (callRefusal (s .args .o)) (s .pre)) (c .if1 .taken),
+      record { base = refl; system = refl; elimination = refl; memory = refl; kept = λ _. refl },
     )
 
 add-n : tie.Need-add-n
@@ -100,7 +102,7 @@ sum-up-requires c κs = let e = c .before .before .before .before .before .befor
     let k = ok e in
     let a = Begin e .args in
     let x = c .before .before .before .before .before .before .before .before .before .before .before .before .before .before .before .before .before .before .before .before .before .before .before .before .before .run-jobs in (
-      readable (a .o) (Z (Begin e)) (a .sheets .now) (a .points .now) (a .vectors .now) _ (a .numbers .now) (a .places .now) (a .passes .now) _ _ _ k (x .ensures) (x .kept .1 .1 .1 .1 .1 .1 .1 .1 .1 .1 .1 .1 .0) (x .kept .1 .1 .1 .1 .1 .1 .1 .1 .1 .1 .1 .0),
+      readable (B (Begin e)) _ _ _ _ k (x .ensures) (x .kept .1 .1 .1 .1 .1 .1 .1 .1 .1 .1 .1 .1 .0) (x .kept .1 .1 .1 .1 .1 .1 .1 .1 .1 .1 .1 .0),
       length-take-le 66 (a .plus .now) (k .plus-room),
       length-take-le 66 (a .minus .now) (k .minus-room),
     )
@@ -111,15 +113,15 @@ returns-2 c = let e = c .before .before .before .before .before .before .before 
     let a = s .args in
     let k = ok e in
     let x = c .before .before .before .before .before .before .before .before .before .before .before .before .before .before .before .before .before .before .before .before .before .before .before .before .before .before .before .before .before .before .run-jobs in
-    let n = order (Z s) * (order (Z s) + 1) in
-    rw (s .pre) (
-      whole (a .o) (Z s) (a .sheets .now) (a .points .now) (a .vectors .now) _ (a .numbers .now) (a .places .now) (a .passes .now) _ _ _ k (x .ensures) _ (a .counts .now) _ (a .plus .now) _ (a .minus .now) _ (c .before .before .before .before .before .before .before .before .before .before .before .count-all .ensures) (c .before .before .before .before .sum-up .ensures)
-          ∙ sym (call-done (a .o) (Z s) (a .sheets .now) (a .points .now) (a .vectors .now) (a .numbers .now) (a .places .now) (a .passes .now) (a .counts .now) (a .plus .now) (a .minus .now) (none e)),
+    let n = matrixCells (a .z .nodes + a .z .sources) in
+    let r = bytes (lengths (B s)) / recordBytes in (
+      whole (B s) _ _ _ _ k (x .ensures) _ _ _ _ (c .before .before .before .before .before .before .before .before .before .before .before .count-all .ensures) (c .before .before .before .before .sum-up .ensures)
+          ∙ sym (call-done (B s) (none e)),
       record {
         base = drop-at (x .last .1 .1 .1 .1 .1 .1 .1 .0) (drop n (a .base .now)) n (x .kept .1 .1 .1 .1 .1 .1 .1 .0 ∙ length-take-le _ _ (k .one .base-room));
         system = drop-at (x .last .1 .1 .1 .1 .1 .1 .1 .1 .0) (drop n (a .system .now)) n (x .kept .1 .1 .1 .1 .1 .1 .1 .1 .0 ∙ length-take-le _ _ (k .one .system-room));
         elimination = drop-at (x .last .1 .1 .1 .1 .1 .1 .1 .1 .1 .0) (drop n (a .elimination .now)) n (x .kept .1 .1 .1 .1 .1 .1 .1 .1 .1 .0 ∙ length-take-le _ _ (k .one .elimination-room));
-        memory = drop-at (x .last .1 .1 .1 .1 .1 .1 .1 .1 .1 .1 .0) (drop (bytes (Z s) / recordBytes) (a .memory .now)) (bytes (Z s) / recordBytes) (x .kept .1 .1 .1 .1 .1 .1 .1 .1 .1 .1 .0 ∙ length-take-le _ _ (k .one .memory-room));
+        memory = drop-at (x .last .1 .1 .1 .1 .1 .1 .1 .1 .1 .1 .0) (drop r (a .memory .now)) r (x .kept .1 .1 .1 .1 .1 .1 .1 .1 .1 .1 .0 ∙ length-take-le _ _ (k .one .memory-room));
         kept = λ h. absurd (h (none e));
       },
     )

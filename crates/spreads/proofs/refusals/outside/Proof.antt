@@ -1,6 +1,6 @@
 -- `spreads::refusals::outside` meets its contract.
 use mathlib.Core.Path.{sym}
-use Rattle.spreads.specs.Refusals.{below-nodes, past-nodes}
+use Rattle.spreads.specs.laws.Refusals.{below-nodes, past-nodes}
 use Rattle.spreads.proofs.refusals.outside.Statement.{statement}
 use Rattle.spreads.proofs.refusals.outside.Tie as tie
 

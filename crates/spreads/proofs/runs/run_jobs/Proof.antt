@@ -3,10 +3,9 @@ use Prim.Native.Nat.{ℕ, _+_, _-_}
 use mathlib.Core.Path.{_≡_, subst}
 use native.Mathlib.Omega.{arith}
 use lib.ListN.{length}
-use Rattle.spreads.specs.Runs.{runsOf, runsAfter}
-use Rattle.spreads.specs.Single.{jobAt}
+use Rattle.spreads.specs.Runs.{tableOf, tableAfter, jobAt}
 use Rattle.spreads.proofs.Turn.{Turn, begun, turned}
-use Rattle.spreads.specs.Each.{row}
+use Rattle.loops.specs.laws.Each.{row}
 use borrow.Author.Needs.{needs}
 use Rattle.spreads.proofs.runs.run_jobs.Statement.{statement}
 use Rattle.spreads.proofs.runs.run_jobs.Tie as tie
@@ -41,7 +40,7 @@ returns : tie.Need-returns Inv-loop μ-loop
 returns c = let l = c .before .loop in
     let a = c .before .before .before .before .before .before .before .before .before .before .before .before .args in
     let e : l .job ≡ a .jobs = omega (arith, l .inv .below, c .loop-test .left) in
-    subst (λ (i : ℕ). runsOf (l .vectors) (l .numbers) (l .places) (l .passes) ≡ runsAfter (jobAt (a .o) (a .nodes) (a .sources) (a .bytes) (a .sheets .now) (a .points .now)) (a .nodes + a .sources) i (a .vectors .now) (a .numbers .now) (a .places .now) (a .passes .now)) e (l .inv .ran)
+    subst (λ (i : ℕ). tableOf (l .vectors) (l .numbers) (l .places) (l .passes) ≡ tableAfter (jobAt (a .o) (a .nodes) (a .sources) (a .bytes) (a .sheets .now) (a .points .now)) (a .nodes + a .sources) i (a .vectors .now) (a .numbers .now) (a .places .now) (a .passes .now)) e (l .inv .ran)
 
 pub run-jobs-spec : {M : Type 1} → statement M
 run-jobs-spec =

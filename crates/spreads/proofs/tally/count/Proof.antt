@@ -2,7 +2,8 @@
 use Prim.Native.Nat.{ℕ, _-_, _≤_}
 use mathlib.Core.Path.{_≡_, refl, ap, _∙_}
 use native.Mathlib.Omega.{arith}
-use Rattle.spreads.specs.Tally.{numberIn, howMany, many-most, many-more}
+use Rattle.spreads.specs.Tally.{numberIn, howMany}
+use Rattle.spreads.specs.laws.Tally.{many-most, many-more}
 use borrow.Author.Needs.{needs}
 use Rattle.spreads.proofs.tally.count.Statement.{statement}
 use Rattle.spreads.proofs.tally.count.Tie as tie

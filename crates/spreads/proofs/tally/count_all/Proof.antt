@@ -5,7 +5,8 @@ use mathlib.Core.Path.{_≡_, ap, _∙_}
 use native.Mathlib.Omega.{arith}
 use lib.ListN.{length, drop}
 use Rattle.spreads.specs.Tally.{numberIn, howMany}
-use Rattle.spreads.specs.Each.{each, each-more}
+use Rattle.loops.specs.Each.{each}
+use Rattle.loops.specs.laws.Each.{each-more}
 use borrow.Author.Needs.{needs}
 use Rattle.spreads.proofs.tally.count_all.Statement.{statement}
 use Rattle.spreads.proofs.tally.count_all.Tie as tie

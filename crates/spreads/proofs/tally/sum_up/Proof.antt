@@ -2,15 +2,17 @@
 use Prim.Native.Nat.{_+_, _-_, _*_, _≤_}
 use mathlib.Core.Path.{_≡_, sym, _∙_}
 use native.Mathlib.Omega.{arith}
-use Rattle.exact.specs.Sums.{Sums, row-length, no-terms}
-use Rattle.spreads.specs.Tally.{numberIn, valueIn, reportOf, sumOf, settled-most, sum-more, report-more}
-use Rattle.spreads.specs.Each.{row}
+use Rattle.exact.specs.Sums.{Sums}
+use Rattle.exact.specs.laws.Sums.{row-length, no-terms}
+use Rattle.spreads.specs.Tally.{numberIn, valueIn, reportOver, sumOf}
+use Rattle.spreads.specs.laws.Tally.{settled-most, sum-more, report-more}
+use Rattle.loops.specs.laws.Each.{row}
 use borrow.Author.Needs.{needs}
 use Rattle.spreads.proofs.tally.sum_up.Statement.{statement}
 use Rattle.spreads.proofs.tally.sum_up.Tie as tie
 
 abbrev Inv-loop : tie.InvT-loop
-Inv-loop numbers vectors jobs n unknown plus₀ minus₀ r₀ j₀ plus minus r j = (j ≤ jobs) × Sums j (sumOf (numberIn numbers) (valueIn n unknown vectors) j) plus minus × (r ≡ reportOf (numberIn numbers) (valueIn n unknown vectors) j)
+Inv-loop numbers vectors jobs n unknown plus₀ minus₀ r₀ j₀ plus minus r j = (j ≤ jobs) × Sums j (sumOf (numberIn numbers) (valueIn n unknown vectors) j) plus minus × (r ≡ reportOver (numberIn numbers) (valueIn n unknown vectors) j)
 
 abbrev μ-loop : tie.MeasureT-loop
 μ-loop numbers vectors jobs n unknown plus₀ minus₀ r₀ j₀ plus minus r j = jobs - j

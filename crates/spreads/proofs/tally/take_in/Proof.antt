@@ -15,4 +15,4 @@ returns-2 c = rw (eq-eqb _ _ (c .before .before .before .before .before .before 
 pub take-in-spec : {M : Type 1} → statement M
 take-in-spec =
     tie.close
-    (tie.spec returns (λ c κs. search needs) (λ c κs. search needs) (λ c. search needs) (λ c. search needs) returns-2)
+    (tie.spec (λ c. search needs) returns (λ c κs. search needs) (λ c κs. search needs) (λ c. search needs) (λ c. search needs) returns-2)

@@ -1,9 +1,9 @@
--- `spreads::runs::marked` meets its contract.
+-- `single::marked` meets its contract.
 use mathlib.Core.Path.{sym, ap}
-use Rattle.spreads.specs.Single.{markOf}
+use Rattle.single.specs.Single.{markOf}
 use borrow.Author.Needs.{needs}
-use Rattle.spreads.proofs.runs.marked.Statement.{statement}
-use Rattle.spreads.proofs.runs.marked.Tie as tie
+use Rattle.single.proofs.marked.Statement.{statement}
+use Rattle.single.proofs.marked.Tie as tie
 
 returns : tie.Need-returns
 unfolding markOf

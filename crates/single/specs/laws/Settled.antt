@@ -1,43 +1,42 @@
--- A settled DC run has a finite vector: the last pass that says "yes" has looked at every unknown, and no later pass writes. So the exact sum over settled jobs is never refused. Clients cite single-finite.
+-- A settled DC run has a finite vector: the last pass that says "yes" has looked at every unknown, and no later pass writes. Clients cite AllFinite and alone-finite. Assumes nothing.
 use Prim.Native.Nat.{ℕ, zero, suc, _+_, _<_, _≤_}
 use mathlib.Core.Path.{_≡_, refl, sym, ap, subst}
-use mathlib.Core.Bool.{Bool, true, false, cond}
+use mathlib.Core.Bool.{Bool, true, false, cond, false≢true}
 use mathlib.Core.Logic.{_⊎_, inl, inr, ⊎-elim}
 use mathlib.Core.List.{List, []}
 use native.Mathlib.Omega.{arith}
 use borrow.Author.Tests.{eq-eqb}
 use lib.Count.{trailingZeros}
 use lib.Dec.{T, eqb, ltb}
-use lib.ListN.{length, getD, take, drop, getD-replicate, List·getD-append}
+use lib.ListN.{length, getD, take, drop, length-replicate, getD-replicate, List·getD-append}
 use lib.Ieee as Ieee
 use lib.Ieee.{Float, nan, binary64, ofBits, ofFields, odd}
 use lib.Ieee.Scale.{finite}
 use Rattle.num.specs.Floats.{nought, absoluteOf}
-use Rattle.loops.specs.Loop.{turns}
-use Rattle.loops.specs.Laws.{le-or-lt}
+use Rattle.loops.specs.Loop.{turns, zerosLike}
+use Rattle.loops.specs.laws.Loop.{le-or-lt}
 use Rattle.options.specs.declared.Options.{Options}
 use Rattle.convergence.specs.declared.Convergence.{Convergence}
 use Rattle.convergence.specs.declared.Convergence.the-variants as check
 use Rattle.convergence.specs.Convergence.{numberOf, limit, place, placeAt, checked, convergenceOf}
-use Rattle.sheet.specs.declared.Checked.{Checked}
-use Rattle.sheet.specs.declared.Checked.the-variants.{Clean, Faulty}
-use Rattle.checks.specs.declared.Sizes.{Sizes}
-use Rattle.checks.specs.Checks.{order, records, checkedOf}
+use Rattle.checks.specs.Checks.{order, records}
 use Rattle.steps.specs.declared.Counters.{Counters}
 use Rattle.steps.specs.declared.Report.{Report}
 use Rattle.steps.specs.declared.Report.the-variants.{Yes, No, Error, Diode, Sine}
-use Rattle.steps.specs.Verdicts.{diode, passesUsed, transientPhase}
-use Rattle.steps.specs.Counters.{counted, going, verdictOf}
+use Rattle.numbers.specs.Verdicts.{settled, passesUsed, diodeCurrent}
+use Rattle.steps.specs.Phases.{transientPhase}
+use Rattle.steps.specs.Counters.{top, counted, going, verdictOf}
 use Rattle.steps.specs.Control.{reportOf, failed, dcOver, dcAfter}
-use Rattle.machine.specs.State.{State, Job, Attempt, jobOf}
-use Rattle.machine.specs.Machine.{before, tried, triedBy, dcPass, pass, runFor}
-use Rattle.machine.specs.Budget.{pass-stopped}
-use Rattle.engine.specs.Result.{resultOf, endingOf, refusedOf}
-use Rattle.passes.specs.Attempt.{circuitOf, attemptOf}
-use Rattle.engine.specs.Work.{zeros, baseOn, startOf, endOf}
-use Rattle.engine.specs.Engine.{laid, lastOf, unless, runOf}
-use Rattle.engine.specs.Promises.{rows-stand}
-use Rattle.spreads.specs.Single.{markOf, singleIn, alone, jobSizes, single}
+use Rattle.steps.specs.declared.Job.{Job}
+use Rattle.machine.specs.State.{State, Attempt, writtenOf}
+use Rattle.machine.specs.Machine.{before, tried, triedBy, writtenBy, dcPass, pass, runFor}
+use Rattle.machine.specs.laws.Budget.{pass-stopped}
+use Rattle.passes.specs.Attempt.{attemptOf}
+use Rattle.engine.specs.Work.{startOf, endOf}
+use Rattle.engine.specs.Engine.{Call, sizes, circuit, lastOf}
+use Rattle.engine.specs.laws.Promises.{rows-stand}
+use Rattle.single.specs.Single.{Single, fresh, alone}
+use Rattle.single.specs.laws.Alone.{last, by-check}
 
 -- every number of x is finite
 abbrev pub AllFinite : List Float → Type 0
@@ -93,9 +92,9 @@ module _ (f : Attempt) (j : Job) (s : State) where
   tried-finite : triedBy f j s .report ≡ Yes → AllFinite (triedBy f j s .vector)
   unfolding tried
   tried-finite e =
-      let a = f (s .counters) (s .accepted) (s .system) (s .vector) (s .memory) in
-      yes-finite (a .vector) (before (s .counters .first) (s .vector)) (j .nodes) (j .options)
-      (yes-check _ (yes-reported (eqb (a .fault) 0) (eqb (a .fault) diode) _ e))
+      let a = f (s .counters) (s .accepted) (s .buffers) in
+      yes-finite (a .vector) (before (s .counters .first) (s .buffers .vector)) (j .nodes) (j .options)
+      (yes-check _ (yes-reported (eqb (a .fault) 0) (eqb (a .fault) diodeCurrent) _ e))
 
 -- ---- the run
 
@@ -104,7 +103,7 @@ abbrev Over : Counters → List Float → Type 0
 Over c v = (c .phase ≡ 0) ⊎ ((going c ≡ false) × (c .verdict ≡ 0 → AllFinite v))
 
 abbrev Settles : State → Type 0
-Settles s = Over (s .counters) (s .vector)
+Settles s = Over (s .counters) (s .buffers .vector)
 
 -- the control after a DC pass
 controlled : (o : Options) (r : Report) (c : Counters) (v : List Float) → c .phase ≡ 0 → (r ≡ Yes → AllFinite v) → Over (dcAfter o false r c) v × (eqb (dcAfter o false r c .phase) transientPhase ≡ false)
@@ -119,19 +118,25 @@ controlled o Error c v h g = (inr (refl, λ e. absurd (omega arith)), refl)
 controlled o Diode c v h g = (inr (refl, λ e. absurd (omega arith)), refl)
 controlled o Sine c v h g = (inr (refl, λ e. absurd (omega arith)), refl)
 
+-- and after its row, which no DC run has
+unwritten : (o : Options) (tr : Bool) (r : Report) (c : Counters) (v rows : List Float) → tr ≡ false → c .phase ≡ 0 → (r ≡ Yes → AllFinite v)
+    → Over (cond (eqb (dcAfter o tr r c .phase) transientPhase) (writtenBy (dcAfter o tr r c) v rows) (writtenOf (dcAfter o tr r c) rows) .counters) v
+unwritten o true r c v rows d h g = absurd (false≢true (sym d))
+unwritten o false r c v rows d h g =
+    let k = controlled o r c v h g in
+    rw (k .1) (k .0)
+
 module _ (f : Attempt) (j : Job) (d : j .transient ≡ false) where
   dc-settles : (s : State) → s .counters .phase ≡ 0 → Settles (dcPass f j s)
   unfolding dcPass
-  dc-settles s h =
-      let k = controlled (j .options) (triedBy f j s .report) (s .counters) (triedBy f j s .vector) h (tried-finite f j s) in
-      rw (d, k .1) (k .0)
+  dc-settles s h = unwritten (j .options) (j .transient) (triedBy f j s .report) (s .counters) (triedBy f j s .vector) (s .buffers .rows) d h (tried-finite f j s)
 
   pass-settles : (s : State) → Settles s → Settles (pass f j s)
   unfolding pass
   pass-settles s p =
       ⊎-elim
       (λ (h : s .counters .phase ≡ 0). rw (eq-eqb (s .counters .phase) 0 h) (dc-settles s h))
-      (λ (h : (going (s .counters) ≡ false) × (s .counters .verdict ≡ 0 → AllFinite (s .vector))). subst Settles (sym (pass-stopped f j s (h .0))) p)
+      (λ (h : (going (s .counters) ≡ false) × (s .counters .verdict ≡ 0 → AllFinite (s .buffers .vector))). subst Settles (sym (pass-stopped f j s (h .0))) p)
       p
 
   run-settles : (n : ℕ) (s : State) → Settles s → Settles (runFor f j n s)
@@ -150,31 +155,23 @@ over-finite c v p e =
 
 -- ---- a job
 
-module _ (o : Options) (z : Sizes) (d : z .transient ≡ false) (sheet points : List ℕ) (y w : List Float) where
-  last-finite : verdictOf (lastOf o z sheet points y w .counters) ≡ 0 → AllFinite (lastOf o z sheet points y w .vector)
-  unfolding endOf
-  last-finite e =
-      over-finite (lastOf o z sheet points y w .counters) (lastOf o z sheet points y w .vector)
-      (run-settles (attemptOf (circuitOf o (z .nodes) (order z) sheet points (baseOn (z .nodes) (order z) sheet))) (jobOf o (z .nodes) (z .transient)) d (o .budget) (startOf sheet (order z) (take (records z) y) w) (inl refl)) e
+last-finite : (c : Call) → c .job .transient ≡ false → verdictOf (lastOf c .counters) ≡ 0 → AllFinite (lastOf c .buffers .vector)
+unfolding endOf
+last-finite c d e =
+    over-finite (lastOf c .counters) (lastOf c .buffers .vector)
+    (run-settles (attemptOf (circuit c)) (c .job) d (c .job .options .budget) (startOf (circuit c) (take (records (sizes c)) (c .lent .memory)) (c .lent .rows)) (inl refl)) e
 
 finite-nought : T (finite nought)
 unfolding ofBits ofFields odd trailingZeros
 finite-nought = tt
 
-alone-finite : (o : Options) (z : Sizes) (sheet points : List ℕ) (u : ℕ) → z .transient ≡ false → z .vector ≡ order z → u < order z → alone o z sheet points .mark .number ≡ 0 → T (finite (getD (alone o z sheet points .vector) u nan))
-unfolding alone runOf markOf endingOf refusedOf
-alone-finite o z sheet points u d h l = go (checkedOf o z sheet)
-  where
-    go : (c : Checked)
-        → singleIn (unless c (laid z sheet (lastOf o z sheet points (zeros (z .memory)) []) (zeros (z .base)) (zeros (z .system)) (zeros (z .vector)) (zeros (z .memory))) (resultOf (refusedOf c) (zeros (z .base)) (zeros (z .system)) (zeros (z .vector)) (zeros (z .memory)) [])) .mark .number ≡ 0
-        → T (finite (getD (singleIn (unless c (laid z sheet (lastOf o z sheet points (zeros (z .memory)) []) (zeros (z .base)) (zeros (z .system)) (zeros (z .vector)) (zeros (z .memory))) (resultOf (refusedOf c) (zeros (z .base)) (zeros (z .system)) (zeros (z .vector)) (zeros (z .memory)) [])) .vector) u nan))
-    go Clean e =
-        let n : length (lastOf o z sheet points (zeros (z .memory)) [] .vector) ≡ order z = rows-stand o z sheet points (zeros (z .memory)) [] (omega arith) .long in
-        let m : u < length (lastOf o z sheet points (zeros (z .memory)) [] .vector) = omega (arith, n) in
-        rw (List·getD-append (lastOf o z sheet points (zeros (z .memory)) [] .vector) (drop (order z) (zeros (z .vector))) nan u m) (last-finite o z d sheet points (zeros (z .memory)) [] e u m)
-    go (Faulty k i) e = rw (getD-replicate (z .vector) u nought nan (omega (arith, h))) finite-nought
-
 -- a settled job's unknowns are finite
-pub single-finite : (o : Options) (nodes sources : ℕ) (sheet points : List ℕ) (u : ℕ) → u < nodes + sources → single o nodes sources sheet points .mark .number ≡ 0 → T (finite (getD (single o nodes sources sheet points .vector) u nan))
-unfolding single
-single-finite o nodes sources sheet points u h e = alone-finite o (jobSizes nodes sources (length sheet) (length points)) sheet points u refl refl h e
+pub alone-finite : (c : Call) (u : ℕ) → c .job .transient ≡ false → length (c .lent .rows) ≤ top → length (c .lent .vector) ≡ order (sizes c) → u < order (sizes c) → alone c .mark .number ≡ settled
+    → T (finite (getD (alone c .vector) u nan))
+alone-finite c u d few h l =
+    by-check c (λ (x : Single). x .mark .number ≡ settled → T (finite (getD (x .vector) u nan)))
+    (λ q e.
+    let x = last c .buffers .vector in
+    let m : u < length x = omega (arith, rows-stand (fresh c) (rw (length-replicate (length (c .lent .rows)) nought) few) .long) in
+    rw (List·getD-append x (drop (order (sizes c)) (zerosLike (c .lent .vector))) nan u m) (last-finite (fresh c) d e u m))
+    (λ k i q e. rw (getD-replicate (length (c .lent .vector)) u nought nan (omega (arith, h))) finite-nought)

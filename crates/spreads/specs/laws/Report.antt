@@ -11,11 +11,11 @@ use lib.Dec.{T, eqb}
 use lib.Ieee as Ieee
 use lib.Ieee.{Float}
 use lib.Ieee.Scale.{finite}
-use Rattle.loops.specs.Laws.{le-or-lt}
+use Rattle.num.specs.laws.Less.{no, lt-self, lt-trans, lt-either}
+use Rattle.loops.specs.laws.Loop.{le-or-lt}
 use Rattle.spreads.specs.declared.Report.{Report}
 use Rattle.spreads.specs.declared.tally.Peak.{Peak}
-use Rattle.spreads.specs.Less.{no, lt-self, lt-trans, lt-either}
-use Rattle.spreads.specs.Tally.{howMany, peakOf, lower, upper, reported, withJob, reportOf}
+use Rattle.spreads.specs.Tally.{howMany, peakOf, lower, upper, reported, withJob, reportOver}
 
 -- ---- the counts
 
@@ -75,10 +75,10 @@ upwards = record { itself = lt-self; on = λ x y z p q. lt-trans z y x q p; part
 
 module _ (number : ℕ → ℕ) (value : ℕ → Float) where
   -- the report counts the settled as the counts do
-  pub settled-many : (j : ℕ) → reportOf number value j .settled ≡ howMany number j 0
+  pub settled-many : (j : ℕ) → reportOver number value j .settled ≡ howMany number j 0
   unfolding withJob howMany
   settled-many zero = refl
-  settled-many (suc j) = go (eqb (number j) 0) (reportOf number value j) (settled-many j)
+  settled-many (suc j) = go (eqb (number j) 0) (reportOver number value j) (settled-many j)
     where
       first : (b : Bool) (r : Report) → eqb (r .settled) 0 ≡ b → r .settled ≡ howMany number j 0
           → cond b (reported 1 (peakOf (value j) j) (peakOf (value j) j)) (reported (r .settled + 1) (lower j (value j) (peakOf (r .smallest) (r .«smallest_at»))) (upper j (value j) (peakOf (r .largest) (r .«largest_at»)))) .settled
@@ -153,10 +153,10 @@ module _ (number : ℕ → ℕ) (value : ℕ → Float) where
     pub smallest : 0 < r .settled → Best Ieee.lt n (peakOf (r .smallest) (r .«smallest_at»))
     pub largest : 0 < r .settled → Best above n (peakOf (r .largest) (r .«largest_at»))
 
-  pub extremes : ((i : ℕ) → number i ≡ 0 → T (finite (value i))) → (n : ℕ) → Extremes n (reportOf number value n)
+  pub extremes : ((i : ℕ) → number i ≡ 0 → T (finite (value i))) → (n : ℕ) → Extremes n (reportOver number value n)
   unfolding withJob
   extremes f zero = record { none = λ e i l. absurd (omega arith); smallest = λ h. absurd (omega arith); largest = λ h. absurd (omega arith) }
-  extremes f (suc j) = go (eqb (number j) 0) refl (reportOf number value j) (extremes f j)
+  extremes f (suc j) = go (eqb (number j) 0) refl (reportOver number value j) (extremes f j)
     where
       first : (b : Bool) (r : Report) → eqb (r .settled) 0 ≡ b → number j ≡ 0 → Extremes j r
           → Extremes (suc j) (cond b (reported 1 (peakOf (value j) j) (peakOf (value j) j)) (reported (r .settled + 1) (lower j (value j) (peakOf (r .smallest) (r .«smallest_at»))) (upper j (value j) (peakOf (r .largest) (r .«largest_at»)))))
