@@ -1,9 +1,9 @@
 // The lent buffers: room for them, what they hold before a call, and whether they hold what they must after it.
+use jobs::Rooms;
 use std::num::wrapping_add_u64;
 use std::num::wrapping_add_usize;
 ghost use mathlib.Core.Path.{_≡_};
-ghost use Prim.Native.Nat.{_≤_};
-ghost use lib.ListN.{length, take};
+ghost use lib.ListN.{length};
 
 // The bits of each buffer's float 0 before a call; every further float is one pattern up.
 pub const BASE: u64 = 0x4000_0100_0000_0000;
@@ -17,6 +17,9 @@ pub const VECTOR: u64 = 0x4000_0400_0000_0000;
 pub const MEMORY: u64 = 0x4000_0500_0000_0000;
 
 pub const ROWS: u64 = 0x4000_0600_0000_0000;
+
+// The rows' floats at most.
+pub const ROW_FLOATS: usize = 2048;
 
 // Fills a buffer with the patterns from `first` up.
 fn lend(x: &mut [f64], first: u64) {
@@ -75,72 +78,60 @@ pub fn after(at: usize, n: usize) -> usize {
     wrapping_add_usize(at, wrapping_add_usize(four, four))
 }
 
-// n, but no more than the floats of x.
-pub fn within(x: &[f64], n: usize) -> usize
-    ensures { λ r. ⌜ (r ≤ length (now (x .entry))) × (r ≡ length (take r (now (x .entry)))) ⌝ }
-{
-    if n < x.len() {
-        return n;
+// The rooms as they are lent.
+pub fn lent_rooms() -> Rooms {
+    let base = matrix(BASE);
+    let system = matrix(SYSTEM);
+    let elimination = matrix(ELIMINATION);
+    let vector = vector(VECTOR);
+    let memory = memory(MEMORY);
+    Rooms {
+        base,
+        system,
+        elimination,
+        vector,
+        memory,
     }
-    x.len()
 }
 
-// A matrix as it is lent: 48 rows of 49 floats, and some to spare.
-pub fn matrix(first: u64) -> [f64; 2360]
+// A matrix as it is lent.
+fn matrix(first: u64) -> [f64; jobs::MATRIX]
     ensures { λ r. ⌜ 2360 ≡ length r ⌝ }
 {
-    let mut x = room_2360();
+    let mut x = jobs::matrix();
     lend(&mut x, first);
     x
 }
 
 // The vector as it is lent.
-pub fn vector(first: u64) -> [f64; 64]
+fn vector(first: u64) -> [f64; jobs::VECTOR]
     ensures { λ r. ⌜ 64 ≡ length r ⌝ }
 {
-    let mut x = room_64();
+    let mut x = jobs::vector_room();
     lend(&mut x, first);
     x
 }
 
 // The diodes' memory as it is lent.
-pub fn memory(first: u64) -> [f64; 264]
+fn memory(first: u64) -> [f64; jobs::MEMORY]
     ensures { λ r. ⌜ 264 ≡ length r ⌝ }
 {
-    let mut x = room_264();
+    let mut x = jobs::memory_room();
     lend(&mut x, first);
     x
 }
 
 // The rows as they are lent.
-pub fn rows(first: u64) -> [f64; 2048]
+pub fn rows(first: u64) -> [f64; ROW_FLOATS]
     ensures { λ r. ⌜ 2048 ≡ length r ⌝ }
 {
-    let mut x = room_2048();
+    let mut x = rows_room();
     lend(&mut x, first);
     x
 }
 
-fn room_2360() -> [f64; 2360]
-    ensures { λ r. ⌜ 2360 ≡ length r ⌝ }
-{
-    [0.0; 2360]
-}
-
-fn room_64() -> [f64; 64]
-    ensures { λ r. ⌜ 64 ≡ length r ⌝ }
-{
-    [0.0; 64]
-}
-
-fn room_264() -> [f64; 264]
-    ensures { λ r. ⌜ 264 ≡ length r ⌝ }
-{
-    [0.0; 264]
-}
-
-fn room_2048() -> [f64; 2048]
+fn rows_room() -> [f64; ROW_FLOATS]
     ensures { λ r. ⌜ 2048 ≡ length r ⌝ }
 {
-    [0.0; 2048]
+    [0.0; ROW_FLOATS]
 }

@@ -2,9 +2,18 @@
 use super::buffers;
 use super::tally;
 use engine::Outcome;
-use num::f64_at;
-use num::u64_at;
-use options::Options;
+use jobs::Answer;
+use jobs::Head;
+use jobs::Rooms;
+
+// The floats that a job can lend.
+const MATRIX: u64 = jobs::MATRIX as u64;
+
+const VECTOR: u64 = jobs::VECTOR as u64;
+
+const MEMORY: u64 = jobs::MEMORY as u64;
+
+const ROW_FLOATS: u64 = buffers::ROW_FLOATS as u64;
 
 // The first field in which an answer differs from the stored one; or none, or that the job cannot be read.
 pub enum Found {
@@ -26,7 +35,7 @@ pub enum Found {
 }
 
 // An answer's numbers, as they are stored.
-pub struct Told {
+pub struct Numbers {
     pub refusal: u64,
     pub place: u64,
     pub verdict: u64,
@@ -44,178 +53,36 @@ pub fn ends(f: Found) -> bool {
     }
 }
 
-// Runs a job that was read whole, in buffers of the lengths that it names.
+// Runs a job that was read whole, in rooms that hold all that it lends.
 pub fn replayed(
-    header: &[u8],
+    h: Head,
+    a: Answer,
     sheet: &[u8],
     points: &[u8],
-    head: &[u8],
     floats: &[u8],
     counts: &mut [u64],
 ) -> Found {
-    if !whole(header, sheet, points, head, floats) {
-        return Found::Unreadable;
-    }
-    let mut base = buffers::matrix(buffers::BASE);
-    let mut system = buffers::matrix(buffers::SYSTEM);
-    let mut elimination = buffers::matrix(buffers::ELIMINATION);
-    let mut vector = buffers::vector(buffers::VECTOR);
-    let mut memory = buffers::memory(buffers::MEMORY);
     let mut rows = buffers::rows(buffers::ROWS);
-    let b = buffers::within(&base, u64_at(header, 184) as usize);
-    let s = buffers::within(&system, u64_at(header, 192) as usize);
-    let e = buffers::within(&elimination, u64_at(header, 200) as usize);
-    let v = buffers::within(&vector, u64_at(header, 208) as usize);
-    let m = buffers::within(&memory, u64_at(header, 216) as usize);
-    let w = buffers::within(&rows, u64_at(header, 224) as usize);
-    run(
-        header,
-        sheet,
-        points,
-        head,
-        floats,
-        &mut base[..b],
-        &mut system[..s],
-        &mut elimination[..e],
-        &mut vector[..v],
-        &mut memory[..m],
-        &mut rows[..w],
-        counts,
-    )
+    let run = jobs::run_job(buffers::lent_rooms(), &mut rows, h, sheet, points);
+    let outcome = run.outcome;
+    let rooms = run.rooms;
+    let n = as_stored(outcome, h.transient);
+    tally::ended(counts, h, n);
+    compared(rooms, &rows, n, a, floats)
 }
 
 // Whether every part was read to its end, and no lent length is beyond the room for it.
-fn whole(header: &[u8], sheet: &[u8], points: &[u8], head: &[u8], floats: &[u8]) -> bool {
-    let parts = (sheet.len() as u64 == u64_at(header, 168))
-        & (points.len() as u64 == u64_at(header, 176))
-        & (std::num::wrapping_add_u64(floats.len() as u64, 104) == u64_at(head, 0));
-    let matrices = (u64_at(header, 184) <= 2360)
-        & (u64_at(header, 192) <= 2360)
-        & (u64_at(header, 200) <= 2360);
-    let others = (u64_at(header, 208) <= 64)
-        & (u64_at(header, 216) <= 264)
-        & (u64_at(header, 224) <= 2048);
+pub fn whole(h: Head, a: Answer, sheet: u64, points: u64, floats: u64) -> bool {
+    let parts = (sheet == h.sheet) & (points == h.points) & (floats == a.floats);
+    let matrices = (h.base <= MATRIX) & (h.system <= MATRIX) & (h.elimination <= MATRIX);
+    let others = (h.vector <= VECTOR) & (h.memory <= MEMORY) & (h.rows <= ROW_FLOATS);
     parts & matrices & others
 }
 
-// Runs the job in its buffers, counts how it ended and looks for a difference.
-fn run(
-    header: &[u8],
-    sheet: &[u8],
-    points: &[u8],
-    head: &[u8],
-    floats: &[u8],
-    base: &mut [f64],
-    system: &mut [f64],
-    elimination: &mut [f64],
-    vector: &mut [f64],
-    memory: &mut [f64],
-    rows: &mut [f64],
-    counts: &mut [u64],
-) -> Found {
-    let transient = u64_at(header, 8) == 1;
-    let r = analysed(
-        header,
-        sheet,
-        points,
-        transient,
-        base,
-        system,
-        elimination,
-        vector,
-        memory,
-        rows,
-    );
-    let t = as_stored(r, transient);
-    tally::ended(counts, header, t, transient);
-    let f = number_found(t, head);
-    if differs(f) {
-        return f;
-    }
-    buffer_found(
-        head,
-        floats,
-        base,
-        system,
-        elimination,
-        vector,
-        memory,
-        rows,
-    )
-}
-
-// The engine's answer to a job.
-fn analysed(
-    header: &[u8],
-    sheet: &[u8],
-    points: &[u8],
-    transient: bool,
-    base: &mut [f64],
-    system: &mut [f64],
-    elimination: &mut [f64],
-    vector: &mut [f64],
-    memory: &mut [f64],
-    rows: &mut [f64],
-) -> Outcome {
-    let o = options_of(header);
-    let nodes = u64_at(header, 16) as usize;
-    let sources = u64_at(header, 24) as usize;
-    if transient {
-        return engine::transient_analysis(
-            sheet,
-            points,
-            nodes,
-            sources,
-            o,
-            base,
-            system,
-            elimination,
-            vector,
-            memory,
-            rows,
-        );
-    }
-    engine::dc_operating_point(
-        sheet,
-        points,
-        nodes,
-        sources,
-        o,
-        base,
-        system,
-        elimination,
-        vector,
-        memory,
-    )
-}
-
-// The options among a job's numbers.
-fn options_of(header: &[u8]) -> Options {
-    Options {
-        reltol: f64_at(header, 32),
-        vntol: f64_at(header, 40),
-        abstol: f64_at(header, 48),
-        tstart: f64_at(header, 56),
-        tstop: f64_at(header, 64),
-        tstep: f64_at(header, 72),
-        fs: f64_at(header, 80),
-        ft: f64_at(header, 88),
-        rmin: f64_at(header, 96),
-        rmax: f64_at(header, 104),
-        gmin: f64_at(header, 112),
-        boltzmann: f64_at(header, 120),
-        charge: f64_at(header, 128),
-        itl1: u64_at(header, 136),
-        itl3: u64_at(header, 144),
-        itl4: u64_at(header, 152),
-        budget: u64_at(header, 160),
-    }
-}
-
 // The engine's answer as it is stored: DC has no other verdict beside its own.
-fn as_stored(r: Outcome, transient: bool) -> Told {
+fn as_stored(r: Outcome, transient: bool) -> Numbers {
     match r {
-        Outcome::Refused(k, i) => Told {
+        Outcome::Refused(k, i) => Numbers {
             refusal: k as u64,
             place: i as u64,
             verdict: 0,
@@ -224,7 +91,7 @@ fn as_stored(r: Outcome, transient: bool) -> Told {
             rows: 0,
             end: 0.0,
         },
-        Outcome::Ended(e) => Told {
+        Outcome::Ended(e) => Numbers {
             refusal: 0,
             place: 0,
             verdict: e.verdict as u64,
@@ -236,34 +103,55 @@ fn as_stored(r: Outcome, transient: bool) -> Told {
     }
 }
 
-fn differs(f: Found) -> bool {
-    match f {
-        Found::Nothing => false,
-        _ => true,
+// The first field that differs: a number, or else a buffer.
+fn compared(rooms: Rooms, rows: &[f64], n: Numbers, a: Answer, floats: &[u8]) -> Found {
+    let f = number_found(n, a);
+    if let Found::Nothing = f {
+        return rooms_compared(rooms, rows, a, floats);
     }
+    f
+}
+
+// The first buffer that differs.
+fn rooms_compared(rooms: Rooms, rows: &[f64], a: Answer, floats: &[u8]) -> Found {
+    let base = rooms.base;
+    let system = rooms.system;
+    let elimination = rooms.elimination;
+    let vector = rooms.vector;
+    let memory = rooms.memory;
+    buffer_found(
+        &base,
+        &system,
+        &elimination,
+        &vector,
+        &memory,
+        rows,
+        a,
+        floats,
+    )
 }
 
 // The first number that is not the stored one.
-fn number_found(t: Told, head: &[u8]) -> Found {
-    if t.refusal != u64_at(head, 8) {
+fn number_found(n: Numbers, a: Answer) -> Found {
+    if n.refusal != a.refusal {
         return Found::Refusal;
     }
-    if t.place != u64_at(head, 16) {
+    if n.place != a.place {
         return Found::Place;
     }
-    if t.verdict != u64_at(head, 24) {
+    if n.verdict != a.verdict {
         return Found::Verdict;
     }
-    if t.dc != u64_at(head, 32) {
+    if n.dc != a.dc {
         return Found::DcVerdict;
     }
-    if t.passes != u64_at(head, 40) {
+    if n.passes != a.passes {
         return Found::Passes;
     }
-    if t.rows != u64_at(head, 48) {
+    if n.rows != a.rows {
         return Found::Rows;
     }
-    if !buffers::same(t.end, u64_at(head, 56)) {
+    if !buffers::same(n.end, a.end) {
         return Found::End;
     }
     Found::Nothing
@@ -271,20 +159,19 @@ fn number_found(t: Told, head: &[u8]) -> Found {
 
 // The first buffer that does not hold the stored floats and, after them, what was lent. Of the elimination matrix what stands before is nobody's promise.
 fn buffer_found(
-    head: &[u8],
-    floats: &[u8],
     base: &[f64],
     system: &[f64],
     elimination: &[f64],
     vector: &[f64],
     memory: &[f64],
     rows: &[f64],
+    a: Answer,
+    floats: &[u8],
 ) -> Found {
-    let b = u64_at(head, 64) as usize;
-    let s = u64_at(head, 72) as usize;
-    let v = u64_at(head, 80) as usize;
-    let m = u64_at(head, 88) as usize;
-    let w = u64_at(head, 96) as usize;
+    let b = a.base as usize;
+    let s = a.system as usize;
+    let v = a.vector as usize;
+    let m = a.memory as usize;
     let s_at = buffers::after(0, b);
     let v_at = buffers::after(s_at, s);
     let m_at = buffers::after(v_at, v);
@@ -304,7 +191,7 @@ fn buffer_found(
     if !buffers::holds(memory, buffers::MEMORY, floats, m_at, m) {
         return Found::Memory;
     }
-    if !buffers::holds(rows, buffers::ROWS, floats, w_at, w) {
+    if !buffers::holds(rows, buffers::ROWS, floats, w_at, a.row_floats as usize) {
         return Found::RowFloats;
     }
     Found::Nothing

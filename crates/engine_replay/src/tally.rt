@@ -1,8 +1,11 @@
 // How many jobs ended in each way, and the lines that say so.
 use super::job::Found;
-use super::job::Told;
+use super::job::Numbers;
+use jobs::Head;
 use libc::STDOUT_FILENO;
-use num::u64_at;
+use numbers::limit;
+use numbers::refusal;
+use numbers::verdict;
 use std::num::wrapping_add_u64;
 ghost use mathlib.Core.Path.{_≡_};
 ghost use lib.ListN.{length};
@@ -26,6 +29,13 @@ const RECORDS_256: u64 = 104;
 
 const RECORDS_257: u64 = 106;
 
+// The limits, as a job's numbers have them.
+const MOST_UNKNOWNS: u64 = limit::UNKNOWNS as u64;
+
+const RECORD: u64 = 40;
+
+const MOST_SHEET: u64 = RECORD * (limit::RECORDS as u64);
+
 // All counts at 0.
 pub fn zeros() -> [u64; 128]
     ensures { λ r. ⌜ 128 ≡ length r ⌝ }
@@ -34,37 +44,33 @@ pub fn zeros() -> [u64; 128]
 }
 
 // Counts how a job ended.
-pub fn ended(counts: &mut [u64], header: &[u8], t: Told, transient: bool) {
-    add(counts, outcome(t, transient));
-    let refused = if t.refusal == 0 { 0 } else { 1 };
-    limit(
-        counts,
-        unknowns(u64_at(header, 16), u64_at(header, 24)),
-        refused,
-    );
-    limit(counts, budget(u64_at(header, 160)), refused);
-    limit(counts, records(u64_at(header, 168)), refused);
+pub fn ended(counts: &mut [u64], h: Head, n: Numbers) {
+    add(counts, outcome(n, h.transient));
+    let refused = if n.refusal == 0 { 0 } else { 1 };
+    limit(counts, unknowns(h.nodes, h.sources), refused);
+    limit(counts, budget(h.options.budget), refused);
+    limit(counts, records(h.sheet), refused);
 }
 
 // The place of an outcome.
-fn outcome(t: Told, transient: bool) -> u64 {
-    if t.refusal != 0 {
-        return t.refusal;
+fn outcome(n: Numbers, transient: bool) -> u64 {
+    if n.refusal != 0 {
+        return n.refusal;
     }
     let kind = if transient { TRANSIENT } else { DC };
-    wrapping_add_u64(kind, t.verdict)
+    wrapping_add_u64(kind, n.verdict)
 }
 
 // The place of a job at the limit of the unknowns; 0 for any other job.
 fn unknowns(nodes: u64, sources: u64) -> u64 {
-    if nodes > 49 {
+    if nodes > MOST_UNKNOWNS + 1 {
         return 0;
     }
     let n = wrapping_add_u64(nodes, sources);
-    if n == 48 {
+    if n == MOST_UNKNOWNS {
         return UNKNOWNS_48;
     }
-    if n == 49 {
+    if n == MOST_UNKNOWNS + 1 {
         return UNKNOWNS_49;
     }
     0
@@ -72,10 +78,10 @@ fn unknowns(nodes: u64, sources: u64) -> u64 {
 
 // The place of a job at the limit of the budget; 0 for any other job.
 fn budget(passes: u64) -> u64 {
-    if passes == 1000000 {
+    if passes == limit::BUDGET {
         return BUDGET_MOST;
     }
-    if passes == 1000001 {
+    if passes == limit::BUDGET + 1 {
         return BUDGET_BEYOND;
     }
     0
@@ -83,10 +89,10 @@ fn budget(passes: u64) -> u64 {
 
 // The place of a job at the limit of the records; 0 for any other job.
 fn records(bytes: u64) -> u64 {
-    if bytes == 10240 {
+    if bytes == MOST_SHEET {
         return RECORDS_256;
     }
-    if bytes == 10280 {
+    if bytes == MOST_SHEET + RECORD {
         return RECORDS_257;
     }
     0
@@ -141,13 +147,18 @@ pub fn report(counts: &[u64]) {
     io::write_all(STDOUT_FILENO, b", ");
     io::print_decimal(STDOUT_FILENO, at(counts, DIFFER));
     io::write_all(STDOUT_FILENO, b" differ\nrefused:\n");
-    report_from(counts, 0, 1, 11);
+    report_from(counts, 0, refusal::ORDER, refusal::PATTERN);
     io::write_all(STDOUT_FILENO, b"DC:\n");
-    report_from(counts, DC, 0, 1);
-    report_from(counts, DC, 20, 27);
+    report_from(counts, DC, verdict::SETTLED, verdict::SETTLED);
+    report_from(counts, DC, verdict::PASSES_USED, verdict::SINE_REFUSED);
     io::write_all(STDOUT_FILENO, b"transient:\n");
-    report_from(counts, TRANSIENT, 0, 1);
-    report_from(counts, TRANSIENT, 20, 27);
+    report_from(counts, TRANSIENT, verdict::SETTLED, verdict::SETTLED);
+    report_from(
+        counts,
+        TRANSIENT,
+        verdict::PASSES_USED,
+        verdict::SINE_REFUSED,
+    );
     report_limit(counts, b"48 unknowns", UNKNOWNS_48);
     report_limit(counts, b"49 unknowns", UNKNOWNS_49);
     report_limit(counts, b"budget 1000000", BUDGET_MOST);
@@ -156,15 +167,20 @@ pub fn report(counts: &[u64]) {
     report_limit(counts, b"257 records", RECORDS_257);
 }
 
-// Writes the counts of the outcomes from `from` up to `to`.
-fn report_from(counts: &[u64], kind: u64, from: u64, to: u64) {
-    for v in from..to {
-        io::write_all(STDOUT_FILENO, b"  ");
-        io::print_decimal(STDOUT_FILENO, at(counts, wrapping_add_u64(kind, v)));
-        io::write_all(STDOUT_FILENO, b" with ");
-        io::print_decimal(STDOUT_FILENO, v);
-        io::write_all(STDOUT_FILENO, b"\n");
+// Writes the counts of the outcomes from `from` to `to`.
+fn report_from(counts: &[u64], kind: u64, from: u8, to: u8) {
+    for v in from..=to {
+        report_one(at(counts, wrapping_add_u64(kind, v as u64)), v as u64);
     }
+}
+
+// Writes the count of outcome v.
+fn report_one(count: u64, v: u64) {
+    io::write_all(STDOUT_FILENO, b"  ");
+    io::print_decimal(STDOUT_FILENO, count);
+    io::write_all(STDOUT_FILENO, b" with ");
+    io::print_decimal(STDOUT_FILENO, v);
+    io::write_all(STDOUT_FILENO, b"\n");
 }
 
 // Writes what became of the jobs at a limit.

@@ -47,21 +47,21 @@ fn argument(i: usize, spreads: bool) -> bool {
 
 // Runs the file's jobs, or says that it holds none.
 fn run_file(fd: i32) {
-    let jobs = job::jobs(fd);
-    if jobs == 0 {
+    let f = jobs::jobs_file(fd);
+    if f.jobs == 0 {
         io::write_all(
             STDOUT_FILENO,
-            b"This is no file of jobs: it does not begin with SAVJOBS1 and a number of jobs above 0.\n",
+            b"This is no file of jobs: it does not begin with SAVJOBS1 or SAVJOBS2 and a number of jobs above 0.\n",
         );
         return;
     }
-    run_all(fd, jobs);
+    run_all(fd, f.form, f.jobs);
 }
 
 // Runs job after job; a job that cannot be read ends it.
-fn run_all(fd: i32, jobs: u64) {
+fn run_all(fd: i32, form: u64, jobs: u64) {
     for k in 0..jobs {
-        if !job::run_next(fd, k) {
+        if !job::run_next(fd, form, k) {
             return;
         }
     }

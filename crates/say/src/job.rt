@@ -6,11 +6,12 @@ use super::word::print;
 use super::word::text;
 use engine::Ending;
 use judge::Judged;
+use numbers::limit::UNKNOWNS;
 
-pub fn heading(k: u64, kind: u64, nodes: u64, sources: u64) {
+pub fn heading(k: u64, transient: bool, nodes: u64, sources: u64) {
     text(b"Job ");
     print(k);
-    if kind == 1 {
+    if transient {
         text(b": transient analysis, ");
     } else {
         text(b": DC operating point, ");
@@ -107,7 +108,7 @@ fn floats(count: u64, n: u64) -> u64 {
     if 100000 < count {
         return 0;
     }
-    if 48 < n {
+    if (UNKNOWNS as u64) < n {
         return 0;
     }
     count * (n + 1)

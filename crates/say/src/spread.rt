@@ -1,9 +1,21 @@
 // What is written about spreads: how many runs ended in each way, the chosen unknown over the settled ones, and every run that did not settle; after each line the same for a machine.
 use super::number::print_bits;
 use super::number::print_float;
+use super::word::is_refusal;
 use super::word::number_word;
 use super::word::print;
 use super::word::text;
+use numbers::limit::JOB_NUMBERS;
+use numbers::refusal::KIND;
+use numbers::refusal::PATTERN;
+use numbers::refusal::SHEET;
+use numbers::verdict::BUDGET_SPENT;
+use numbers::verdict::DIODE_CURRENT;
+use numbers::verdict::PASSES_USED;
+use numbers::verdict::SETTLED;
+
+// The numbers that a job can have are those below this one.
+const NUMBERS: u8 = JOB_NUMBERS as u8;
 
 // What was asked for.
 pub fn asked(jobs: u64, nodes: u64, sources: u64, unknown: u64) {
@@ -42,7 +54,7 @@ pub fn call_refused(number: u8) {
     text(b"the whole call is refused by ");
     print(number as u64);
     text(b" (");
-    if number == 2 {
+    if number == SHEET {
         text(b"sheets not of one length, not whole records, or too many records");
     } else {
         number_word(number);
@@ -55,7 +67,7 @@ pub fn call_refused(number: u8) {
 // How many jobs have each number, and that these are all the jobs given.
 pub fn counts(counts: &[u64], jobs: u64) {
     let mut sum: u64 = 0;
-    for k in 0..27 {
+    for k in 0..NUMBERS {
         sum = counted(k, at(counts, k as usize), sum);
     }
     text(b"all: ");
@@ -87,14 +99,14 @@ fn counted(k: u8, count: u64, sum: u64) -> u64 {
 // Whether a DC job can be refused by this number or end with it as its verdict.
 fn ends_dc(k: u8) -> bool {
     match k {
-        0 | 6..=10 | 20..=22 | 24 => true,
+        SETTLED | KIND..=PATTERN | PASSES_USED..=DIODE_CURRENT | BUDGET_SPENT => true,
         _ => false,
     }
 }
 
 // A job's number and what it means.
 fn numbered(k: u8) {
-    if (0 < k) & (k < 20) {
+    if is_refusal(k) {
         text(b"refused by ");
     } else {
         text(b"verdict ");
@@ -164,7 +176,7 @@ fn run(job: u64, number: u64, place: u64, passes: u64) {
     print(job);
     text(b": ");
     numbered(k);
-    if k < 20 {
+    if is_refusal(k) {
         text(b", record ");
         print(place);
     } else {

@@ -6,10 +6,10 @@ use Rattle.engine_replay.proofs.replay_all.Statement.{statement}
 use Rattle.engine_replay.proofs.replay_all.Tie as tie
 
 abbrev Inv-loop : tie.InvT-loop
-Inv-loop fd jobs counts₀ k₀ counts k = length counts ≡ length counts₀
+Inv-loop fd form jobs counts₀ k₀ counts k = length counts ≡ length counts₀
 
 abbrev μ-loop : tie.MeasureT-loop
-μ-loop fd jobs counts₀ k₀ counts k = jobs - k
+μ-loop fd form jobs counts₀ k₀ counts k = jobs - k
 
 pub replay-all-spec : {M : Type 1} → statement M
 replay-all-spec =

@@ -4,10 +4,10 @@ use Rattle.savrunte_tool.proofs.run_all.Statement.{statement}
 use Rattle.savrunte_tool.proofs.run_all.Tie as tie
 
 abbrev Inv-loop : tie.InvT-loop
-Inv-loop fd jobs k₀ k = k ≤ jobs
+Inv-loop fd form jobs k₀ k = k ≤ jobs
 
 abbrev μ-loop : tie.MeasureT-loop
-μ-loop fd jobs k₀ k = jobs - k
+μ-loop fd form jobs k₀ k = jobs - k
 
 pub run-all-spec : {M : Type 1} → statement M
 run-all-spec =

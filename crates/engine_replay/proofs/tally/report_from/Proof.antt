@@ -1,15 +1,13 @@
-use Prim.Native.Nat.{_≤_, _-_}
-use mathlib.Core.Path.{_≡_}
-use lib.ListN.{length}
+use Prim.Native.Nat.{_-_}
 use borrow.Author.Needs.{needs}
 use Rattle.engine_replay.proofs.tally.report_from.Statement.{statement}
 use Rattle.engine_replay.proofs.tally.report_from.Tie as tie
 
 abbrev Inv-loop : tie.InvT-loop
-Inv-loop counts kind from to v₀ t6 t7 t8 v = Unit
+Inv-loop counts kind from to v₀ v = Unit
 
 abbrev μ-loop : tie.MeasureT-loop
-μ-loop counts kind from to v₀ t6 t7 t8 v = to - v
+μ-loop counts kind from to v₀ v = to - v
 
 pub report-from-spec : {M : Type 1} → statement M
 report-from-spec =
@@ -21,13 +19,9 @@ report-from-spec =
     (λ c. search needs)
     (λ c κs. search needs)
     (λ c κs. search needs)
-    (λ c κs. search needs)
-    (λ c κs. search needs)
     (λ c. search needs)
     (λ c κs. search needs)
-    (λ c κs. search needs)
     (λ c. search needs)
-    (λ c κs. search needs)
     (λ c. search needs)
     (λ c. search needs)
     (λ c. search needs)

@@ -1,0 +1,63 @@
+// The numbers of a file of spreads, with their names.
+use super::file;
+use super::job::options_of;
+use super::words;
+use super::words::Reading;
+use super::words::word;
+use options::Options;
+
+// The words of the head in form 1, and those that are known here.
+const FORM_1: u8 = 25;
+
+const KNOWN: u8 = 25;
+
+pub struct Spreads {
+    pub jobs: u64,
+    pub nodes: u64,
+    pub sources: u64,
+    pub options: Options,
+    pub sheets: u64, // bytes of all together
+    pub points: u64, // bytes
+    pub unknown: u64,
+}
+
+// The numbers of a file of spreads; or it is empty or no file of spreads, ends inside its head, which has this form, or has a head that is not known here.
+pub enum SpreadsFile {
+    Whole(Spreads),
+    Empty,
+    Other,
+    Ends(u64),
+    Unknown,
+}
+
+// Reads the head of a file of spreads.
+pub fn spreads_file(fd: i32) -> SpreadsFile {
+    let mut head = words::head_room();
+    if words::read_first(fd, &mut head) == 0 {
+        return SpreadsFile::Empty;
+    }
+    let form = file::form_of(word(&head, 0), file::SPREADS);
+    if form == 0 {
+        return SpreadsFile::Other;
+    }
+    let r = words::read_rest(fd, form, FORM_1, KNOWN, &mut head);
+    match r {
+        Reading::Whole => SpreadsFile::Whole(spreads_of(&head)),
+        Reading::Ends => SpreadsFile::Ends(form),
+        Reading::Unknown => SpreadsFile::Unknown,
+    }
+}
+
+// The numbers of the file whose head was read.
+fn spreads_of(head: &[u8]) -> Spreads {
+    let options = options_of(head);
+    Spreads {
+        jobs: word(head, 2),
+        nodes: word(head, 3),
+        sources: word(head, 4),
+        options,
+        sheets: word(head, 22),
+        points: word(head, 23),
+        unknown: word(head, 24),
+    }
+}

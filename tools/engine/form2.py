@@ -1,0 +1,122 @@
+#!/usr/bin/env python3
+"""Stored files in form 2 (docs/FORMATS.md), from those in form 1: the same jobs, with heads that say how many words they have.
+
+    form2.py            writes crates/engine_replay/data/answers2.bin and crates/savrunte_tool/data/front_end2.jobs and spreads2.jobs
+    form2.py --check    says whether they are what it would write
+
+The list of answers takes the directed jobs at the front of bench/answers.bin, and of the random ones behind them the first small one of every outcome. Some heads get words more than
+any version knows, all 0, and some lose the zeros at their end: neither changes a job.
+"""
+import struct
+import sys
+from pathlib import Path
+
+TOP = Path(__file__).resolve().parents[2]
+DATA = TOP / "crates"
+
+DIRECTED = 97  # jobs at the front of bench/answers.bin that are no random ones
+SMALL = 700  # bytes of a random job and its answer
+SPREADS = 8  # jobs of the file of spreads
+
+JOB, ANSWER, SPREAD = 29, 13, 24  # words of the heads in form 1
+MOST = 64  # words of a head
+
+
+def word(b, k):
+    return struct.unpack_from("<Q", b, 8 * k)[0]
+
+
+def words(*all):
+    return struct.pack(f"<{len(all)}Q", *all)
+
+
+def items(b, each):
+    """The jobs of a file, or its jobs and answers, each as a tuple of `each` byte strings."""
+    at = 32
+    for _ in range(word(b, 1)):
+        item = []
+        for _ in range(each):
+            size = struct.unpack_from("<Q", b, at)[0]
+            item.append(b[at : at + size])
+            at += size
+        yield tuple(item)
+    assert at == len(b)
+
+
+def grown(b, old, first=None, size=None):
+    """A head of `old` words in form 1 with what follows it, as form 2 has them. `size` is the number of words wanted; words beyond the old ones are 0."""
+    size = size or old + 1
+    head = list(struct.unpack_from(f"<{old}Q", b))[1:] + [0] * MOST
+    kept, dropped = head[: size - 2], head[size - 2 : old - 1]
+    assert 2 <= size <= MOST and not any(dropped)
+    rest = b[8 * old :]
+    return (first or words(8 * size + len(rest))) + words(size, *kept) + rest
+
+
+def job_size(k, b):
+    """How many words the head of job k gets: of every eight jobs one 1 to 34 more than it needs, one as few as it can."""
+    if k % 8 == 1:
+        return JOB + 2 + 5 * k % 34
+    if k % 8 == 3:
+        return max(i for i in range(JOB) if i == 0 or word(b, i)) + 2
+    return JOB + 1
+
+
+def outcome(job, answer):
+    """The refusal; or the verdict, of DC or of a transient."""
+    return word(answer, 1) or (word(job, 1), word(answer, 3))
+
+
+def chosen(all):
+    """The directed jobs, then the first small one of every outcome."""
+    yield from all[:DIRECTED]
+    seen = set()
+    for job, answer in all[DIRECTED:]:
+        key = outcome(job, answer)
+        if key not in seen and len(job) + len(answer) < SMALL:
+            seen.add(key)
+            yield job, answer
+
+
+def answers(b):
+    pairs = [(grown(j, JOB, size=job_size(k, j)), grown(a, ANSWER)) for k, (j, a) in enumerate(chosen(list(items(b, 2))))]
+    head = b"SAVANSW2" + words(len(pairs), max(len(j) for j, _ in pairs), max(len(a) for _, a in pairs))
+    return head + b"".join(j + a for j, a in pairs)
+
+
+def jobs(b):
+    all = [grown(j, JOB, size=job_size(k, j)) for k, (j,) in enumerate(items(b, 1))]
+    return b"SAVJOBS2" + words(len(all), max(map(len, all)), 0) + b"".join(all)
+
+
+def fewer(b):
+    """The first spreads of a file of form 1, as a file of form 1."""
+    each = word(b, 21) // word(b, 1)
+    sheets = each * SPREADS
+    assert each % 8 == 0
+    points = b[8 * SPREAD + each * word(b, 1) :]
+    return b[:8] + words(SPREADS) + b[16:168] + words(sheets) + b[176:192] + b[192 : 192 + sheets] + points
+
+
+def spreads(b):
+    return grown(fewer(b), SPREAD, first=b"SAVSPRD2", size=40)
+
+
+def main():
+    tool = DATA / "savrunte_tool" / "data"
+    files = {
+        DATA / "engine_replay" / "data" / "answers2.bin": answers((TOP / "bench" / "answers.bin").read_bytes()),
+        tool / "front_end2.jobs": jobs((tool / "front_end.jobs").read_bytes()),
+        tool / "spreads2.jobs": spreads((tool / "spreads.jobs").read_bytes()),
+    }
+    if sys.argv[1:] == ["--check"]:
+        same = all(p.exists() and p.read_bytes() == b for p, b in files.items())
+        print("same" if same else "differs")
+        sys.exit(0 if same else 1)
+    for p, b in files.items():
+        p.write_bytes(b)
+        print(p.relative_to(TOP), len(b), "bytes")
+
+
+if __name__ == "__main__":
+    main()
