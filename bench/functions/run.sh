@@ -6,9 +6,9 @@ here=$(cd "$(dirname "$0")" && pwd)
 top=$(cd "$here/../.." && pwd)
 work=$(mktemp -d)
 trap 'rm -rf "$work"' EXIT
+. "$here/../scratch.sh"
+scratch "$top" "$work" functions
 mkdir -p "$work/crates/door/src"
-cp -r "$top/crates/num" "$top/crates/functions" "$work/crates/"
-rm -rf "$work/crates/functions/must-fail"
 cat > "$work/crates/door/src/lib.rt" <<'END'
 // The three functions for C, for timing alone.
 use functions::Sine;
@@ -31,7 +31,7 @@ pub extern "C" fn own_sin(x: f64) -> f64 {
     }
 }
 END
-printf 'num:\nfunctions: num\ndoor: functions\n' > "$work/crates.txt"
+echo 'door: functions' >>"$work/crates.txt"
 cd "$work"
 rt staticlib door > build.log 2>&1 || { tail -20 build.log; exit 1; }
 ${CC:-cc} -O2 -fno-builtin -o times "$here/times.c" target/staticlib/libdoor.a -lm

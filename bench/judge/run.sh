@@ -7,9 +7,10 @@ top=$(cd "$here/../.." && pwd)
 work=$(mktemp -d)
 trap 'rm -rf "$work"' EXIT
 
+. "$here/../scratch.sh"
+scratch "$top" "$work/repo" judge
 mkdir -p "$work/repo/crates/judge_row/src"
-cp -r "$top/crates/num" "$top/crates/exact" "$top/crates/judge" "$work/repo/crates/"
-printf 'num:\nexact: num\njudge: num exact\njudge_row: judge\n' >"$work/repo/crates.txt"
+echo 'judge_row: judge' >>"$work/repo/crates.txt"
 cat >"$work/repo/crates/judge_row/src/lib.rt" <<'R'
 // The judge for C, as one number.
 use judge::Judged;

@@ -6,12 +6,10 @@ engine=$(realpath "$1")
 here=$(cd "$(dirname "$0")" && pwd)
 top=$(cd "$here/../.." && pwd)
 work=${2:-$(mktemp -d)}
+. "$here/../scratch.sh"
+scratch "$top" "$work" solve
 mkdir -p "$work/crates/door/src"
-for c in num loops solve; do
-    rm -rf "$work/crates/$c"
-    cp -r "$top/crates/$c" "$work/crates/$c"
-done
-printf 'num:\nloops: num\nsolve: num loops\ndoor: solve\n' >"$work/crates.txt"
+echo 'door: solve' >>"$work/crates.txt"
 cat >"$work/crates/door/src/lib.rt" <<'D'
 #[no_mangle]
 pub extern "C" fn door_solve(matrix: &mut [f64], vector: &mut [f64], n: usize) -> u8 {

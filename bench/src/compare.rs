@@ -140,7 +140,7 @@ pub fn describe(job: &Job) -> String {
     let usual = Options::usual().words();
     for (i, w) in job.options.words().iter().enumerate() {
         if *w != usual[i] {
-            let text = if i < 13 { float(f64::from_bits(*w)) } else { format!("{}", w) };
+            let text = if i < COUNTS_AT { float(f64::from_bits(*w)) } else { format!("{}", w) };
             s += &format!(", {} {}", OPTION_NAMES[i], text);
         }
     }

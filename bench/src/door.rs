@@ -1,235 +1,34 @@
 //! The shipped archive through its C door. `no_door.rs` has the same names for a bench without one.
 
 use crate::job::*;
-use crate::spread_calls::{Call, Report, SpreadsAnswer};
+use crate::raw::*;
+use crate::spread_calls::{Call, Report};
 use recorder::Functions;
 
-#[repr(C)]
-struct DcAnswer {
-    refusal: u64,
-    place: u64,
-    verdict: u64,
-    passes: u64,
-}
-
-#[repr(C)]
-struct TransientAnswer {
-    refusal: u64,
-    place: u64,
-    verdict: u64,
-    dc_verdict: u64,
-    passes: u64,
-    rows: u64,
-    end: f64,
-}
-
-#[repr(C)]
-struct ConvergenceAnswer {
-    refusal: u64,
-    state: u64,
-}
-
-#[repr(C)]
-struct JudgeAnswer {
-    refusal: u64,
-    row: u64,
-}
-
-#[repr(C)]
-struct SineAnswer {
-    refusal: u64,
-    value: f64,
-}
-
-#[repr(C)]
-struct CapacitorAnswer {
-    g: f64,
-    i: f64,
-}
-
-#[repr(C)]
-struct DiodeAnswer {
-    verdict: u64,
-    g: f64,
-    i: f64,
-    memory: f64,
-}
-
-extern "C" {
-    fn savrunte_dc(
-        sheet: *const u8,
-        sheet_length: usize,
-        points: *const u8,
-        points_length: usize,
-        nodes: usize,
-        sources: usize,
-        options: Options,
-        base: *mut f64,
-        base_length: usize,
-        system: *mut f64,
-        system_length: usize,
-        elimination: *mut f64,
-        elimination_length: usize,
-        vector: *mut f64,
-        vector_length: usize,
-        memory: *mut f64,
-        memory_length: usize,
-    ) -> DcAnswer;
-    fn savrunte_transient(
-        sheet: *const u8,
-        sheet_length: usize,
-        points: *const u8,
-        points_length: usize,
-        nodes: usize,
-        sources: usize,
-        options: Options,
-        base: *mut f64,
-        base_length: usize,
-        system: *mut f64,
-        system_length: usize,
-        elimination: *mut f64,
-        elimination_length: usize,
-        vector: *mut f64,
-        vector_length: usize,
-        memory: *mut f64,
-        memory_length: usize,
-        rows: *mut f64,
-        rows_length: usize,
-    ) -> TransientAnswer;
-    fn savrunte_spreads(
-        sheets: *const u8,
-        sheets_length: usize,
-        points: *const u8,
-        points_length: usize,
-        jobs: usize,
-        nodes: usize,
-        sources: usize,
-        unknown: usize,
-        options: Options,
-        base: *mut f64,
-        base_length: usize,
-        system: *mut f64,
-        system_length: usize,
-        elimination: *mut f64,
-        elimination_length: usize,
-        memory: *mut f64,
-        memory_length: usize,
-        vectors: *mut f64,
-        vectors_length: usize,
-        numbers: *mut u64,
-        numbers_length: usize,
-        places: *mut u64,
-        places_length: usize,
-        passes: *mut u64,
-        passes_length: usize,
-        counts: *mut u64,
-        counts_length: usize,
-        plus: *mut u64,
-        plus_length: usize,
-        minus: *mut u64,
-        minus_length: usize,
-    ) -> SpreadsAnswer;
-    fn savrunte_solve(
-        matrix: *mut f64,
-        matrix_length: usize,
-        vector: *mut f64,
-        vector_length: usize,
-        rows: usize,
-    ) -> u64;
-    fn savrunte_convergence(
-        x: *const f64,
-        x_length: usize,
-        y: *const f64,
-        y_length: usize,
-        nodes: usize,
-        options: Options,
-    ) -> ConvergenceAnswer;
-    fn savrunte_judge(
-        system: *const f64,
-        system_length: usize,
-        vector: *const f64,
-        vector_length: usize,
-        tolerances: *const f64,
-        tolerances_length: usize,
-        rows: usize,
-    ) -> JudgeAnswer;
-    fn savrunte_exp(x: f64) -> f64;
-    fn savrunte_ln(x: f64) -> f64;
-    fn savrunte_sin(x: f64) -> SineAnswer;
-    fn savrunte_pattern(points: *const u8, points_length: usize, t_delay: f64, repeat: f64, t: f64) -> f64;
-    fn savrunte_capacitor(value: f64, v: f64, step: f64) -> CapacitorAnswer;
-    fn savrunte_diode(i_sat: f64, tdegc: f64, v: f64, memory: f64, options: Options) -> DiodeAnswer;
+/// A call of the door: slices that are only read, numbers, then each lent buffer and how much of it is lent.
+macro_rules! lend {
+    ($call:ident, [$($read:expr),*], [$($number:expr),*], $($buffer:ident: $length:expr),*) => {
+        unsafe { $call($($read.as_ptr(), $read.len(),)* $($number,)* $($buffer.as_mut_ptr(), $length,)*) }
+    };
 }
 
 /// The call, on buffers already lent: numbers only.
 pub fn call(job: &Job, b: &mut [Vec<f64>; 6]) -> Answer {
     let [base, system, elimination, vector, memory, rows] = b;
-    let nothing = [Vec::new(), Vec::new(), Vec::new(), Vec::new(), Vec::new(), Vec::new()];
-    let (nodes, sources) = (job.nodes as usize, job.sources as usize);
-    unsafe {
-        if job.transient {
-            let a = savrunte_transient(
-                job.sheet.as_ptr(),
-                job.sheet.len(),
-                job.points.as_ptr(),
-                job.points.len(),
-                nodes,
-                sources,
-                job.options,
-                base.as_mut_ptr(),
-                base.len(),
-                system.as_mut_ptr(),
-                system.len(),
-                elimination.as_mut_ptr(),
-                elimination.len(),
-                vector.as_mut_ptr(),
-                vector.len(),
-                memory.as_mut_ptr(),
-                memory.len(),
-                rows.as_mut_ptr(),
-                rows.len(),
-            );
-            Answer {
-                refusal: a.refusal,
-                place: a.place,
-                verdict: a.verdict,
-                dc_verdict: a.dc_verdict,
-                passes: a.passes,
-                rows: a.rows,
-                end: a.end,
-                buffers: nothing,
-            }
-        } else {
-            let a = savrunte_dc(
-                job.sheet.as_ptr(),
-                job.sheet.len(),
-                job.points.as_ptr(),
-                job.points.len(),
-                nodes,
-                sources,
-                job.options,
-                base.as_mut_ptr(),
-                base.len(),
-                system.as_mut_ptr(),
-                system.len(),
-                elimination.as_mut_ptr(),
-                elimination.len(),
-                vector.as_mut_ptr(),
-                vector.len(),
-                memory.as_mut_ptr(),
-                memory.len(),
-            );
-            Answer {
-                refusal: a.refusal,
-                place: a.place,
-                verdict: a.verdict,
-                dc_verdict: 0,
-                passes: a.passes,
-                rows: 0,
-                end: 0.0,
-                buffers: nothing,
-            }
-        }
+    let n = [base.len(), system.len(), elimination.len(), vector.len(), memory.len(), rows.len()];
+    let (nodes, sources, o) = (job.nodes as usize, job.sources as usize, job.options);
+    let (sheet, points) = (&job.sheet, &job.points);
+    let buffers = [Vec::new(), Vec::new(), Vec::new(), Vec::new(), Vec::new(), Vec::new()];
+    if job.transient {
+        let a = lend!(savrunte_transient, [sheet, points], [nodes, sources, o],
+            base: n[0], system: n[1], elimination: n[2], vector: n[3], memory: n[4], rows: n[5]);
+        let TransientAnswer { refusal, place, verdict, dc_verdict, passes, rows, end } = a;
+        Answer { refusal, place, verdict, dc_verdict, passes, rows, end, buffers }
+    } else {
+        let a = lend!(savrunte_dc, [sheet, points], [nodes, sources, o],
+            base: n[0], system: n[1], elimination: n[2], vector: n[3], memory: n[4]);
+        let DcAnswer { refusal, place, verdict, passes } = a;
+        Answer { refusal, place, verdict, dc_verdict: 0, passes, rows: 0, end: 0.0, buffers }
     }
 }
 
@@ -245,41 +44,12 @@ pub fn run(job: &Job) -> Option<Answer> {
 pub fn call_spreads(call: &Call, floats: &mut [Vec<f64>; 5], words: &mut [Vec<u64>; 6]) -> SpreadsAnswer {
     let [base, system, elimination, memory, vectors] = floats;
     let [numbers, places, passes, counts, plus, minus] = words;
-    unsafe {
-        savrunte_spreads(
-            call.sheets.as_ptr(),
-            call.sheets.len(),
-            call.points.as_ptr(),
-            call.points.len(),
-            call.jobs,
-            call.nodes as usize,
-            call.sources as usize,
-            call.unknown as usize,
-            call.options,
-            base.as_mut_ptr(),
-            call.floats[0],
-            system.as_mut_ptr(),
-            call.floats[1],
-            elimination.as_mut_ptr(),
-            call.floats[2],
-            memory.as_mut_ptr(),
-            call.floats[3],
-            vectors.as_mut_ptr(),
-            call.floats[4],
-            numbers.as_mut_ptr(),
-            call.words[0],
-            places.as_mut_ptr(),
-            call.words[1],
-            passes.as_mut_ptr(),
-            call.words[2],
-            counts.as_mut_ptr(),
-            call.words[3],
-            plus.as_mut_ptr(),
-            call.words[4],
-            minus.as_mut_ptr(),
-            call.words[5],
-        )
-    }
+    let (nodes, sources, unknown) = (call.nodes as usize, call.sources as usize, call.unknown as usize);
+    // the buffers have a guard behind what is lent
+    let (f, w) = (call.floats, call.words);
+    lend!(savrunte_spreads, [call.sheets, call.points], [call.jobs, nodes, sources, unknown, call.options],
+        base: f[0], system: f[1], elimination: f[2], memory: f[3], vectors: f[4],
+        numbers: w[0], places: w[1], passes: w[2], counts: w[3], plus: w[4], minus: w[5])
 }
 
 /// All spreads in one call: the whole report, buffers included.

@@ -239,7 +239,7 @@ fn options(r: &mut Random, sort: Sort) -> Options {
     if sort == Sort::OddOptions {
         let mut w = o.words();
         for _ in 0..1 + r.below(3) {
-            let i = r.below(13);
+            let i = r.below(COUNTS_AT);
             w[i] = match r.below(4) {
                 0 => r.special().to_bits(),
                 1 => r.round().to_bits(),
@@ -248,9 +248,9 @@ fn options(r: &mut Random, sort: Sort) -> Options {
             };
         }
         if r.one_in(4) {
-            w[13 + r.below(3)] = r.pick(&[0, 1, 9_999, 10_000]);
+            w[COUNTS_AT + r.below(3)] = r.pick(&[0, 1, 9_999, 10_000]);
         }
-        o = Options::of_words(&w);
+        o = Options::of_words(w);
         o.budget = r.pick(&[1, 7, 40, 200]);
     }
     o

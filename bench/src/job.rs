@@ -1,39 +1,17 @@
-//! A job, its answer, and their bytes (docs/FORMATS.md).
+//! A job and its answer. form.rs has their bytes.
 
+pub use crate::raw::{Options, BOLTZMANN, CHARGE, GMIN};
 use std::convert::TryInto;
 
 pub const RECORD: usize = 40;
 pub const POINT: usize = 16;
 
-/// The C door's options, in its order.
-#[repr(C)]
-#[derive(Clone, Copy, Debug)]
-pub struct Options {
-    pub reltol: f64,
-    pub vntol: f64,
-    pub abstol: f64,
-    pub tstart: f64,
-    pub tstop: f64,
-    pub tstep: f64,
-    pub fs: f64,
-    pub ft: f64,
-    pub rmin: f64,
-    pub rmax: f64,
-    pub gmin: f64,
-    pub boltzmann: f64,
-    pub charge: f64,
-    pub itl1: u64,
-    pub itl3: u64,
-    pub itl4: u64,
-    pub budget: u64,
-}
+/// How many words the options have. The floats come first, then the counts, of which the budget cannot be 0.
+pub const OPTIONS: usize = std::mem::size_of::<Options>() / 8;
+pub const COUNTS_AT: usize = 13;
+pub const BUDGET: usize = 16;
 
-/// The Rust's own constants.
-pub const GMIN: u64 = 0x3d719799812dea11;
-pub const BOLTZMANN: u64 = 0x3b30b0e6accdcc7e;
-pub const CHARGE: u64 = 0x3c07a7f678984ae7;
-
-pub const OPTION_NAMES: [&str; 17] = [
+pub const OPTION_NAMES: [&str; OPTIONS] = [
     "reltol",
     "vntol",
     "abstol",
@@ -54,72 +32,29 @@ pub const OPTION_NAMES: [&str; 17] = [
 ];
 
 impl Options {
-    /// The bench's usual numbers: document 01's tolerances, the Rust's constants.
+    /// The bench's usual numbers: those that the Rust crate starts from, with another clock and other counts.
     pub fn usual() -> Options {
         Options {
-            reltol: 0.001,
-            vntol: 0.000001,
-            abstol: 0.000001,
-            tstart: 0.0,
             tstop: 1.0,
             tstep: 0.1,
-            fs: 1.0,
-            ft: 0.25,
             rmin: 0.001,
             rmax: 5.0,
-            gmin: f64::from_bits(GMIN),
-            boltzmann: f64::from_bits(BOLTZMANN),
-            charge: f64::from_bits(CHARGE),
             itl1: 50,
             itl3: 6,
             itl4: 50,
             budget: 2000,
+            ..Options::bench()
         }
     }
 
-    pub fn words(&self) -> [u64; 17] {
-        [
-            self.reltol.to_bits(),
-            self.vntol.to_bits(),
-            self.abstol.to_bits(),
-            self.tstart.to_bits(),
-            self.tstop.to_bits(),
-            self.tstep.to_bits(),
-            self.fs.to_bits(),
-            self.ft.to_bits(),
-            self.rmin.to_bits(),
-            self.rmax.to_bits(),
-            self.gmin.to_bits(),
-            self.boltzmann.to_bits(),
-            self.charge.to_bits(),
-            self.itl1,
-            self.itl3,
-            self.itl4,
-            self.budget,
-        ]
+    /// The fields in their order, floats by their bits.
+    pub fn words(&self) -> [u64; OPTIONS] {
+        // every field is a float or a word of 8 bytes, and any bits are one of either
+        unsafe { std::mem::transmute(*self) }
     }
 
-    pub fn of_words(w: &[u64]) -> Options {
-        let f = f64::from_bits;
-        Options {
-            reltol: f(w[0]),
-            vntol: f(w[1]),
-            abstol: f(w[2]),
-            tstart: f(w[3]),
-            tstop: f(w[4]),
-            tstep: f(w[5]),
-            fs: f(w[6]),
-            ft: f(w[7]),
-            rmin: f(w[8]),
-            rmax: f(w[9]),
-            gmin: f(w[10]),
-            boltzmann: f(w[11]),
-            charge: f(w[12]),
-            itl1: w[13],
-            itl3: w[14],
-            itl4: w[15],
-            budget: w[16],
-        }
+    pub fn of_words(words: [u64; OPTIONS]) -> Options {
+        unsafe { std::mem::transmute(words) }
     }
 }
 
@@ -309,142 +244,4 @@ impl Job {
             && self.options.boltzmann.to_bits() == BOLTZMANN
             && self.options.charge.to_bits() == CHARGE
     }
-
-    /// The job's bytes: size first, then numbers, sheet and points.
-    pub fn bytes(&self) -> Vec<u8> {
-        let mut w: Vec<u64> = vec![0, self.transient as u64, self.nodes, self.sources];
-        w.extend_from_slice(&self.options.words());
-        w.extend_from_slice(&[self.sheet.len() as u64, self.points.len() as u64]);
-        w.extend(self.lengths.iter().map(|l| *l as u64));
-        let mut out: Vec<u8> = w.iter().flat_map(|x| x.to_le_bytes().to_vec()).collect();
-        for part in [&self.sheet, &self.points] {
-            out.extend_from_slice(part);
-            pad(&mut out);
-        }
-        let size = out.len() as u64;
-        out[..8].copy_from_slice(&size.to_le_bytes());
-        out
-    }
-
-    /// Reads a job at the start of `b`.
-    pub fn read(b: &[u8]) -> Job {
-        let w = |i: usize| u64::from_le_bytes(b[8 * i..8 * i + 8].try_into().unwrap());
-        let words: Vec<u64> = (4..21).map(w).collect();
-        let (sheet, points) = (w(21) as usize, w(22) as usize);
-        let start = 29 * 8;
-        let middle = start + (sheet + 7) / 8 * 8;
-        let mut lengths = [0; 6];
-        for (i, l) in lengths.iter_mut().enumerate() {
-            *l = w(23 + i) as usize;
-        }
-        Job {
-            transient: w(1) == 1,
-            nodes: w(2),
-            sources: w(3),
-            options: Options::of_words(&words),
-            sheet: b[start..start + sheet].to_vec(),
-            points: b[middle..middle + points].to_vec(),
-            lengths,
-        }
-    }
-}
-
-fn pad(out: &mut Vec<u8>) {
-    while out.len() % 8 != 0 {
-        out.push(0);
-    }
-}
-
-/// A NaN's payload and sign are nobody's promise: one NaN stands for all.
-fn plain(x: f64) -> u64 {
-    if x.is_nan() {
-        0x7ff8_0000_0000_0000
-    } else {
-        x.to_bits()
-    }
-}
-
-impl Answer {
-    /// The answer's bytes: size first, numbers, then what stands in each buffer.
-    pub fn bytes(&self, job: &Job) -> Vec<u8> {
-        let mut w: Vec<u64> = vec![0, self.refusal, self.place, self.verdict, self.dc_verdict, self.passes, self.rows];
-        w.push(plain(self.end));
-        let n = job.nodes.wrapping_add(job.sources) as usize;
-        let lengths = if self.refusal != 0 {
-            [0; 5]
-        } else {
-            [n * (n + 1), n * (n + 1), n, job.sheet.len() / RECORD, self.rows as usize * (n + 1)]
-        };
-        w.extend(lengths.iter().map(|l| *l as u64));
-        for (length, buffer) in lengths.iter().zip([BASE, SYSTEM, VECTOR, MEMORY, ROWS]) {
-            w.extend(self.buffers[buffer][..*length].iter().map(|x| plain(*x)));
-        }
-        w[0] = 8 * w.len() as u64;
-        w.iter().flat_map(|x| x.to_le_bytes().to_vec()).collect()
-    }
-
-    /// Reads an answer at the start of `b`; floats beyond those written stay as lent.
-    pub fn read(b: &[u8], job: &Job) -> Answer {
-        let w = |i: usize| u64::from_le_bytes(b[8 * i..8 * i + 8].try_into().unwrap());
-        let mut answer = Answer::refused(job, w(1), w(2));
-        answer.verdict = w(3);
-        answer.dc_verdict = w(4);
-        answer.passes = w(5);
-        answer.rows = w(6);
-        answer.end = f64::from_bits(w(7));
-        let mut at = 13;
-        for (i, buffer) in [BASE, SYSTEM, VECTOR, MEMORY, ROWS].iter().enumerate() {
-            for k in 0..w(8 + i) as usize {
-                answer.buffers[*buffer][k] = f64::from_bits(w(at));
-                at += 1;
-            }
-        }
-        answer
-    }
-}
-
-/// Magic of a file of jobs, and of a file of jobs each followed by its answer.
-pub const JOBS: &[u8; 8] = b"SAVJOBS1";
-pub const ANSWERS: &[u8; 8] = b"SAVANSW1";
-
-/// A file: magic, number of jobs, largest job and largest answer in bytes, then the parts.
-pub fn file(magic: &[u8; 8], parts: &[(Vec<u8>, Vec<u8>)]) -> Vec<u8> {
-    let mut out = magic.to_vec();
-    let largest = |i: bool| parts.iter().map(|p| if i { p.0.len() } else { p.1.len() }).max().unwrap_or(0);
-    for x in [parts.len(), largest(true), largest(false)] {
-        out.extend_from_slice(&(x as u64).to_le_bytes());
-    }
-    for (job, answer) in parts {
-        out.extend_from_slice(job);
-        out.extend_from_slice(answer);
-    }
-    out
-}
-
-/// Reads either kind of file.
-pub fn read_file(b: &[u8]) -> Result<Vec<(Job, Option<Answer>)>, String> {
-    let answers = match b.get(..8) {
-        Some(m) if m == JOBS => false,
-        Some(m) if m == ANSWERS => true,
-        _ => return Err("neither a file of jobs nor of answers".to_string()),
-    };
-    let word = |at: usize| -> Result<usize, String> {
-        let part = b.get(at..at + 8).ok_or("the file ends too early")?;
-        Ok(u64::from_le_bytes(part.try_into().unwrap()) as usize)
-    };
-    let mut at = 32;
-    let mut list = Vec::new();
-    for _ in 0..word(8)? {
-        let size = word(at)?;
-        let job = Job::read(b.get(at..at + size).ok_or("the file ends inside a job")?);
-        at += size;
-        let mut answer = None;
-        if answers {
-            let size = word(at)?;
-            answer = Some(Answer::read(b.get(at..at + size).ok_or("the file ends inside an answer")?, &job));
-            at += size;
-        }
-        list.push((job, answer));
-    }
-    Ok(list)
 }

@@ -1,6 +1,7 @@
 //! Random DC and transient jobs on every side.
 
 use crate::compare::*;
+use crate::form::{file, Form};
 use crate::generate::{self, Sort};
 use crate::job::*;
 use crate::model::{self, WRONG};
@@ -196,7 +197,7 @@ fn report(seed: u64, place: u64, pair: usize, folder: &str) {
     }
     println!("  {}", describe(&small));
     let path = format!("{}/difference-{}-{}.jobs", folder, pair, place);
-    if std::fs::write(&path, file(JOBS, &[(small.bytes(), Vec::new())])).is_ok() {
+    if std::fs::write(&path, file(Form::Two, &[(small, None)])).is_ok() {
         println!("  written to {}", path);
     }
 }

@@ -4,6 +4,7 @@
 use crate::compare::*;
 use crate::directed;
 use crate::door;
+use crate::form::{file, read_file, Form};
 use crate::generate;
 use crate::job::*;
 use crate::model::{self, Wrong};
@@ -62,8 +63,8 @@ fn tighten(job: &mut Job, a: &Answer) {
 }
 
 /// Writes the list made from a seed.
-pub fn write(seed: u64, path: &str) -> u64 {
-    let mut parts = Vec::new();
+pub fn write(seed: u64, path: &str, form: Form) -> u64 {
+    let mut list = Vec::new();
     let mut classes = Tally::default();
     let mut outcomes = Tally::default();
     let mut take = |mut job: Job, classes: &mut Tally, always: bool| {
@@ -78,7 +79,7 @@ pub fn write(seed: u64, path: &str) -> u64 {
         classes.add(&key);
         let a = answer(&job);
         outcomes.add(&a.outcome());
-        parts.push((job.bytes(), a.bytes(&job)));
+        list.push((job, Some(a)));
     };
     for d in directed::all() {
         take(d.job, &mut classes, true);
@@ -93,9 +94,9 @@ pub fn write(seed: u64, path: &str) -> u64 {
             take(job, &mut classes, false);
         }
     }
-    let bytes = file(ANSWERS, &parts);
+    let bytes = file(form, &list);
     std::fs::write(path, &bytes).expect("the list cannot be written");
-    println!("{}: {} jobs, {} bytes, seed {}", path, parts.len(), bytes.len(), seed);
+    println!("{}: {} jobs, {} bytes, seed {}", path, list.len(), bytes.len(), seed);
     println!("  {}", outcomes.line());
     println!("  {}", classes.line());
     0

@@ -5,6 +5,7 @@ mod directed;
 #[cfg_attr(not(archive), path = "no_door.rs")]
 mod door;
 mod exact;
+mod form;
 mod functions;
 mod generate;
 mod job;
@@ -15,6 +16,11 @@ mod model;
 mod netlist;
 mod oracle;
 mod random;
+// the one declaration of the C door in Rust; the bench calls most of it
+#[rustfmt::skip]
+#[allow(dead_code)]
+#[path = "../../bindings/rust/src/raw.rs"]
+mod raw;
 mod shrink;
 mod sides;
 mod speed;
@@ -23,6 +29,8 @@ mod spread_rules;
 mod spreads;
 mod spreads_speed;
 mod tally;
+
+use form::Form;
 
 /// Panics of the Rust that stand for a verdict are caught and not shown.
 fn quiet_panics() {
@@ -41,7 +49,7 @@ fn conclude(differences: u64) -> u64 {
 }
 
 const USAGE: &str = "usage: bench run SEED COUNT FOLDER | directed | show | leaves SEED COUNT | jobs SEED COUNT FOLDER
-    | job SEED PLACE | find READING SEED COUNT | list SEED FILE | replay FILE | speed
+    | job SEED PLACE | find READING SEED COUNT | list SEED FILE [FORM] | replay FILE | speed | time [ROW [FILE]]
     | spreads SEED CALLS | spread SEED PLACE | spreads-speed FOLDER FILE";
 
 fn main() {
@@ -61,9 +69,17 @@ fn main() {
         "jobs" => jobs::run(seed(), count(), text(3, ".")),
         "job" => jobs::show_one(seed(), number(2, 0)),
         "find" => directed::find(number(1, 0) as usize, number(2, 1), number(3, 100_000)),
-        "list" => list::write(seed(), text(2, "answers.bin")),
+        "list" => match number(3, 1) {
+            1 => list::write(seed(), text(2, "answers.bin"), Form::One),
+            2 => list::write(seed(), text(2, "answers.bin"), Form::Two),
+            _ => {
+                eprintln!("the form of a list is 1 or 2");
+                1
+            }
+        },
         "replay" => list::replay(text(1, "answers.bin")),
         "speed" => speed::run(),
+        "time" => speed::time(args.get(1).map(|_| number(1, 0) as usize), text(2, "-")),
         "spreads" => conclude(spreads::run(seed(), number(2, 1000))),
         "spreads-speed" => spreads_speed::run(text(1, "-"), text(2, "-")),
         "spread" => spreads::show_one(seed(), number(2, 0)),

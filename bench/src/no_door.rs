@@ -3,7 +3,8 @@
 use crate::functions::STANDING_IN;
 use crate::job::*;
 use crate::model::{self, Wrong};
-use crate::spread_calls::{Call, Report, SpreadsAnswer};
+use crate::raw::SpreadsAnswer;
+use crate::spread_calls::{Call, Report};
 use recorder::Functions;
 
 pub const LINKED: bool = false;

@@ -1,5 +1,6 @@
 //! The smallest job that still shows something: one simplification after another, kept if it still does.
 
+use crate::form::Form;
 use crate::job::*;
 
 /// Tries every simplification until none is kept.
@@ -72,7 +73,7 @@ fn simpler(job: &Job) -> Vec<Job> {
         list.push(j);
     }
     let (usual, words) = (Options::usual().words(), job.options.words());
-    for i in 0..13 {
+    for i in 0..COUNTS_AT {
         if words[i] != usual[i] {
             let mut targets = vec![usual[i]];
             if !simple(f64::from_bits(words[i])) {
@@ -81,23 +82,23 @@ fn simpler(job: &Job) -> Vec<Job> {
             for target in targets {
                 let mut w = words;
                 w[i] = target;
-                list.push(with_options(job, &w));
+                list.push(with_options(job, w));
             }
         }
     }
-    for i in 13..17 {
+    for i in COUNTS_AT..OPTIONS {
         for number in [0, 1, 10, usual[i]] {
-            if number < words[i] && (i != 16 || number > 0) {
+            if number < words[i] && (i != BUDGET || number > 0) {
                 let mut w = words;
                 w[i] = number;
-                list.push(with_options(job, &w));
+                list.push(with_options(job, w));
             }
         }
     }
     if whole {
         values(job, &elements, &mut list);
     }
-    list.retain(|j| j.bytes() != job.bytes());
+    list.retain(|j| j.bytes(Form::Two) != job.bytes(Form::Two));
     list
 }
 
@@ -105,10 +106,8 @@ fn simple(x: f64) -> bool {
     [0.0, 1.0, 2.0].contains(&x)
 }
 
-fn with_options(job: &Job, words: &[u64; 17]) -> Job {
-    let mut j = job.clone();
-    j.options = Options::of_words(words);
-    j
+fn with_options(job: &Job, words: [u64; OPTIONS]) -> Job {
+    Job { options: Options::of_words(words), ..job.clone() }
 }
 
 /// The greatest node number put in place of each other one, counts lowered with it.

@@ -5,10 +5,15 @@
 use crate::compare::{compare, Scope};
 use crate::directed::Build;
 use crate::door;
+use crate::form::{plain, Form};
 use crate::job::*;
 use crate::oracle::{hooked, quiet, timed};
+use crate::raw::SpreadsAnswer;
 use crate::sides::OURS;
+use crate::spread_calls::{Call, Report, VECTORS};
+use crate::spreads_speed;
 use recorder::Record;
+use std::convert::TryInto;
 
 const SIZES: [usize; 4] = [2, 8, 24, 48];
 const STEPS: usize = 1000;
@@ -149,6 +154,87 @@ fn row(transient: bool, n: usize, diodes: bool) -> u64 {
     (verdict != 0 || idle || differ != 0) as u64
 }
 
+/// What is timed without the Rust, by place: the rows of the table, the amplifier's spreads, and a file of spreads.
+fn timed_alone(place: usize, file: &str) -> Option<(String, Timed)> {
+    let ladders = 4 * SIZES.len();
+    if place < ladders {
+        let (transient, diodes, n) = (place / 8 == 1, place / 4 % 2 == 1, SIZES[place % 4]);
+        let name =
+            format!("{} {}{}", if transient { "transient" } else { "DC" }, n, if diodes { ", diodes" } else { "" });
+        return Some((name, Timed::Run(ladder(n, transient, diodes))));
+    }
+    match place - ladders {
+        0 => Some(("spreads: the amplifier".to_string(), Timed::Spreads(spreads_speed::amplifiers()))),
+        1 => Some(("spreads: a file".to_string(), Timed::Spreads(Call::read(&std::fs::read(file).ok()?)?))),
+        _ => None,
+    }
+}
+
+enum Timed {
+    Run(Job),
+    Spreads(Call),
+}
+
+/// The words of a run's answer as a file has it: all its numbers and every buffer but the scratch one.
+fn run_words(job: &Job, answer: &Answer) -> Vec<u64> {
+    answer.bytes(job, Form::Two).chunks_exact(8).map(|w| u64::from_le_bytes(w.try_into().unwrap())).collect()
+}
+
+/// The words of a report: its numbers, the vectors and every buffer of words. The other floats are scratch.
+fn report_words(report: &Report) -> Vec<u64> {
+    let SpreadsAnswer { refusal, settled, smallest, largest, smallest_at, largest_at } = report.answer;
+    let numbers = [refusal, settled, plain(smallest), plain(largest), smallest_at, largest_at];
+    let vectors = report.floats[VECTORS].iter().map(|x| plain(*x));
+    numbers.iter().copied().chain(vectors).chain(report.words.iter().flatten().copied()).collect()
+}
+
+/// All the words of an answer in one, so that two programs can be held against each other.
+fn checksum(words: &[u64]) -> u64 {
+    words.iter().fold(0xcbf2_9ce4_8422_2325, |sum, w| (sum ^ w).wrapping_mul(0x0000_0100_0000_01b3).rotate_left(23))
+}
+
+/// Times the shipped code of one place alone, for bench/pair: name, microseconds and the answer's bits in one word.
+/// Without a place: how many there are.
+pub fn time(place: Option<usize>, file: &str) -> u64 {
+    let place = match place {
+        Some(place) => place,
+        None => {
+            println!("{}", 4 * SIZES.len() + 2);
+            return 0;
+        }
+    };
+    let (name, what) = match timed_alone(place, file) {
+        Some(timed) => timed,
+        None => {
+            println!("nothing to time at {}", place);
+            return 1;
+        }
+    };
+    let watched = |run: &mut dyn FnMut() -> u64| {
+        let mut watch = Stopwatch::new(run);
+        for _ in 0..3 {
+            watch.round(run);
+        }
+        watch.best * 1e6
+    };
+    let (us, bits) = match &what {
+        Timed::Run(job) => {
+            let mut buffers = job.lent();
+            let us = watched(&mut || shipped(job, &mut buffers).0);
+            let numbers = door::call(job, &mut buffers);
+            (us, checksum(&run_words(job, &Answer { buffers, ..numbers })))
+        }
+        Timed::Spreads(call) => {
+            let (mut floats, mut words) = (call.lent_floats(), call.lent_words());
+            let us = watched(&mut || door::call_spreads(call, &mut floats, &mut words).settled);
+            let answer = door::call_spreads(call, &mut floats, &mut words);
+            (us, checksum(&report_words(&Report { answer, floats, words })))
+        }
+    };
+    println!("{}\t{:.4}\t{:016x}", name, us, bits);
+    0
+}
+
 pub fn run() -> u64 {
     if !door::LINKED {
         println!("no archive linked: the plain model is timed in its place");
@@ -169,4 +255,59 @@ pub fn run() -> u64 {
     println!("ratio: the Rust's time over the shipped code's; above 1 the shipped code is faster");
     println!("ours in it: the Rust with our exp, ln and sin, as bits can only be equal; differ: fields and floats of the whole answer that are not");
     bad
+}
+
+#[cfg(test)]
+mod tests {
+    use super::*;
+    use crate::model::{self, Wrong};
+
+    /// Whether a change of the whole shows in its checksum.
+    fn shows<T: Clone>(whole: &T, sum: &dyn Fn(&T) -> u64, change: &dyn Fn(&mut T)) -> bool {
+        let mut other = whole.clone();
+        change(&mut other);
+        sum(&other) != sum(whole)
+    }
+
+    #[test]
+    fn the_checksum_of_a_run_has_all_but_scratch() {
+        let job = ladder(8, true, true);
+        let answer = model::run(&job, &OURS, Wrong::Nothing);
+        assert!(answer.refusal == 0 && answer.rows > 0);
+        let sum = |a: &Answer| checksum(&run_words(&job, a));
+        let numbers: [fn(&mut Answer); 7] = [
+            |a| a.refusal = 1,
+            |a| a.place += 1,
+            |a| a.verdict += 1,
+            |a| a.dc_verdict += 1,
+            |a| a.passes += 1,
+            |a| a.rows -= 1,
+            |a| a.end += 1.0,
+        ];
+        assert!(numbers.iter().all(|change| shows(&answer, &sum, change)));
+        for b in 0..BUFFERS.len() {
+            assert_eq!(shows(&answer, &sum, &|a| a.buffers[b][0] = 7.5), b != ELIMINATION, "{}", BUFFERS[b]);
+        }
+    }
+
+    #[test]
+    fn the_checksum_of_spreads_has_all_but_scratch() {
+        let report = Report::refused(&spreads_speed::amplifiers(), 0);
+        let sum = |r: &Report| checksum(&report_words(r));
+        let numbers: [fn(&mut Report); 6] = [
+            |r| r.answer.refusal += 1,
+            |r| r.answer.settled += 1,
+            |r| r.answer.smallest += 1.0,
+            |r| r.answer.largest += 1.0,
+            |r| r.answer.smallest_at += 1,
+            |r| r.answer.largest_at += 1,
+        ];
+        assert!(numbers.iter().all(|change| shows(&report, &sum, change)));
+        for b in 0..report.floats.len() {
+            assert_eq!(shows(&report, &sum, &|r| r.floats[b][0] = 7.5), b == VECTORS);
+        }
+        for b in 0..report.words.len() {
+            assert!(shows(&report, &sum, &|r| r.words[b][0] += 1));
+        }
+    }
 }

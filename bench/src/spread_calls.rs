@@ -5,6 +5,7 @@ use crate::generate::{self, Sort};
 use crate::job::{lent, Element, Job, Options, POINT, RECORD, VECTOR};
 use crate::model::{self, Wrong};
 use crate::random::Random;
+use crate::raw::SpreadsAnswer;
 use crate::sides::OURS;
 
 pub const MOST_JOBS: usize = 256;
@@ -39,18 +40,6 @@ pub struct Call {
     pub words: [usize; 6],
 }
 
-/// The C door's answer, in its order.
-#[repr(C)]
-#[derive(Clone, Copy, Default)]
-pub struct SpreadsAnswer {
-    pub refusal: u64,
-    pub settled: u64,
-    pub smallest: f64,
-    pub largest: f64,
-    pub smallest_at: u64,
-    pub largest_at: u64,
-}
-
 /// What came back: the answer, and every lent buffer afterwards.
 #[derive(Clone)]
 pub struct Report {
@@ -68,30 +57,6 @@ impl Report {
 }
 
 impl Call {
-    /// Reads a file of spreads (docs/FORMATS.md); None where it is none.
-    pub fn read(b: &[u8]) -> Option<Call> {
-        const HEAD: usize = 24;
-        if b.len() < 8 * HEAD || &b[..8] != b"SAVSPRD1" {
-            return None;
-        }
-        let w: Vec<u64> = b[..8 * HEAD].chunks(8).map(|c| u64::from_le_bytes(c.try_into().unwrap())).collect();
-        let (sheets, points) = (w[21] as usize, w[22] as usize);
-        let (from, to) = (8 * HEAD, (8 * HEAD).checked_add(sheets)?);
-        let mut call = Call {
-            jobs: w[1] as usize,
-            nodes: w[2],
-            sources: w[3],
-            unknown: w[23],
-            options: Options::of_words(&w[4..21]),
-            sheets: b.get(from..to)?.to_vec(),
-            points: b.get(to..to.checked_add(points)?)?.to_vec(),
-            floats: [0; 5],
-            words: [0; 6],
-        };
-        call.fit();
-        Some(call)
-    }
-
     pub fn unknowns(&self) -> u128 {
         self.nodes as u128 + self.sources as u128
     }

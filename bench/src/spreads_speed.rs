@@ -71,12 +71,17 @@ fn one_call(jobs: &[Job], unknown: usize) -> Call {
     call
 }
 
+/// All spreads of the amplifier, watching its output.
+pub fn amplifiers() -> Call {
+    let mut r = Random::new(212, 0);
+    let jobs: Vec<Job> = (0..SPREADS).map(|_| amplifier(&mut r)).collect();
+    one_call(&jobs, OUTPUT)
+}
+
 /// The table of the amplifier above and, unless it is "-", of a file of spreads. `folder` takes ngspice's netlists, and is "-"
 /// where ngspice is not to be run.
 pub fn run(folder: &str, file: &str) -> u64 {
-    let mut r = Random::new(212, 0);
-    let jobs: Vec<Job> = (0..SPREADS).map(|_| amplifier(&mut r)).collect();
-    let mut bad = table("the bench's amplifier", &one_call(&jobs, OUTPUT), folder);
+    let mut bad = table("the bench's amplifier", &amplifiers(), folder);
     if file != "-" {
         match std::fs::read(file).ok().and_then(|b| Call::read(&b)) {
             Some(call) => bad += table(file, &call, folder),

@@ -1,4 +1,9 @@
-//! The C door, as include/savrunte.h declares it.
+//! The C door, as include/savrunte.h declares it. The crate is built on it, and the bench (bench/src/door.rs) too.
+
+/// GMIN, BOLTZMANN and CHARGE of the Rust engine, by their bits.
+pub const GMIN: u64 = 0x3d71_9799_812d_ea11;
+pub const BOLTZMANN: u64 = 0x3b30_b0e6_accd_cc7e;
+pub const CHARGE: u64 = 0x3c07_a7f6_7898_4ae7;
 
 /// The options of a run. Any float bits are allowed; the counts are checked by the call.
 #[repr(C)]
@@ -37,9 +42,9 @@ impl Options {
             ft: 0.25,
             rmin: 0.1,
             rmax: 1.0,
-            gmin: f64::from_bits(0x3d71_9799_812d_ea11),
-            boltzmann: f64::from_bits(0x3b30_b0e6_accd_cc7e),
-            charge: f64::from_bits(0x3c07_a7f6_7898_4ae7),
+            gmin: f64::from_bits(GMIN),
+            boltzmann: f64::from_bits(BOLTZMANN),
+            charge: f64::from_bits(CHARGE),
             itl1: 10,
             itl3: 0,
             itl4: 10,
@@ -49,6 +54,7 @@ impl Options {
 }
 
 #[repr(C)]
+#[derive(Clone, Copy, Default)]
 pub struct DcAnswer {
     pub refusal: u64,
     pub place: u64,
@@ -57,6 +63,7 @@ pub struct DcAnswer {
 }
 
 #[repr(C)]
+#[derive(Clone, Copy, Default)]
 pub struct TransientAnswer {
     pub refusal: u64,
     pub place: u64,
@@ -68,6 +75,7 @@ pub struct TransientAnswer {
 }
 
 #[repr(C)]
+#[derive(Clone, Copy, Default)]
 pub struct SpreadsAnswer {
     pub refusal: u64,
     pub settled: u64,
@@ -78,30 +86,35 @@ pub struct SpreadsAnswer {
 }
 
 #[repr(C)]
+#[derive(Clone, Copy, Default)]
 pub struct ConvergenceAnswer {
     pub refusal: u64,
     pub state: u64,
 }
 
 #[repr(C)]
+#[derive(Clone, Copy, Default)]
 pub struct JudgeAnswer {
     pub refusal: u64,
     pub row: u64,
 }
 
 #[repr(C)]
+#[derive(Clone, Copy, Default)]
 pub struct SinAnswer {
     pub refusal: u64,
     pub value: f64,
 }
 
 #[repr(C)]
+#[derive(Clone, Copy, Default)]
 pub struct Companion {
     pub g: f64,
     pub i: f64,
 }
 
 #[repr(C)]
+#[derive(Clone, Copy, Default)]
 pub struct DiodeAnswer {
     pub verdict: u64,
     pub g: f64,
