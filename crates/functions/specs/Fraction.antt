@@ -2,8 +2,10 @@
 use Prim.Native.Nat.{ℕ, _+_, _-_, _*_, _^_, _≤_}
 use mathlib.Core.Bool.{Bool, true, false, not, cond}
 use mathlib.Core.List.{List, [], _∷_}
+use lib.Dec.{T}
 use lib.ListN.{length}
 use lib.Ieee.{Float}
+use lib.Ieee.Scale.{finite}
 use lib.Ieee.Positive.{num, den}
 use Rattle.num.specs.Floats.{sign}
 
@@ -29,6 +31,11 @@ negated true a = record { plus = a .minus; minus = a .plus; den = a .den }
 -- a finite float as a fraction; num x / den x is its size
 abbrev pub valueOf : Float → Fraction
 valueOf x = negated (sign x) (record { plus = num x; minus = 0; den = den x })
+
+-- r is a finite number, and at most 2 ^ -t from X
+pub record FiniteWithin (t : ℕ) (r : Float) (X : Fraction) : Type 0 where
+  pub number : T (finite r)
+  pub close : Within t (valueOf r) X
 
 -- how far apart two numbers are
 abbrev pub apart : ℕ → ℕ → ℕ

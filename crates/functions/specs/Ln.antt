@@ -5,7 +5,7 @@ use mathlib.Core.List.{List, [], _∷_}
 use lib.Dec.{ltb, leb, eqb}
 use lib.Ieee.{Float, nan, inf, fin, binary64, neg, ofBits, size}
 use lib.Ieee.Positive.{num, den}
-use Rattle.functions.specs.Fraction.{Fraction, Within, added, negated, valueOf, apart, sumOf}
+use Rattle.functions.specs.Fraction.{Fraction, FiniteWithin, added, negated, apart, sumOf}
 use Rattle.functions.specs.Words.{horner, upper, packed, unitsOf}
 use Rattle.functions.specs.Exp.{ell}
 
@@ -95,9 +95,9 @@ mTop x = num x * 2 ^ 1075
 abbrev pub mBottom : Float → ℕ → ℕ
 mBottom x place = den x * 2 ^ place
 
--- r at a finite x above 0: x = 2 ^ e m with 3/4 ≤ m < 3/2, and r is within 2 ^ -40 of e L and the series
+-- r at a finite x above 0: x = 2 ^ e m with 3/4 ≤ m < 3/2, and r is a finite number within 2 ^ -40 of e L and the series
 pub record LnClose (x r : Float) : Type 0 where
   pub place : ℕ
   pub least : 3 * mBottom x place ≤ 4 * mTop x
   pub below : 2 * mTop x < 3 * mBottom x place
-  pub close : Within 40 (valueOf r) (added (record { plus = place * ell; minus = 1075 * ell; den = 2 ^ 64 }) (lnSeries (mTop x) (mBottom x place)))
+  pub close : FiniteWithin 40 r (added (record { plus = place * ell; minus = 1075 * ell; den = 2 ^ 64 }) (lnSeries (mTop x) (mBottom x place)))

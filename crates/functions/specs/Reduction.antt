@@ -1,6 +1,7 @@
 -- The reduction of x by a modulus M / 2 ^ 64: k, the whole number nearest to x over the modulus, and f = x - k M / 2 ^ 64. Definitions only.
 -- Where x is below 0, k and f are those of - x, negated; no quotient lies in the middle of two whole numbers.
-use Prim.Native.Nat.{ℕ, _+_, _*_, _/_, _^_}
+use mathlib.Core.Path.{_≡_}
+use Prim.Native.Nat.{ℕ, _+_, _*_, _/_, _^_, _≤_, _<_}
 use mathlib.Core.Bool.{Bool}
 use lib.Dec.{ltb}
 use lib.Ieee.{Float, unlike}
@@ -31,3 +32,10 @@ fBottom x = 2 ^ 64 * den x
 
 abbrev pub fMinus : ℕ → Float → Bool
 fMinus M x = unlike (sign x) (belowOf M (num x) (den x))
+
+-- ---- what k is
+
+-- k is the whole number nearest to the size of x over the modulus: less than 1/2 from it, and no other is within 1/2. Each side is times 2 M and x's denominator.
+pub record Nearest (M : ℕ) (x : Float) (k : ℕ) : Type 0 where
+  pub half : 2 * apart (num x * 2 ^ 64) (k * (M * den x)) < M * den x
+  pub only : (j : ℕ) → 2 * apart (num x * 2 ^ 64) (j * (M * den x)) ≤ M * den x → j ≡ k

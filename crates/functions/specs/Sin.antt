@@ -1,5 +1,5 @@
--- sin: what it answers, and the sums that the answer is held against. Clients cite sinOf, sineRefusal and numberOf. Definitions only.
-use Prim.Native.Nat.{ℕ, zero, suc, _+_, _-_, _*_, _/_, _%_, _^_, _≤_}
+-- sin: what it answers, and the sums that the answer is held against. Clients cite sinOf, Numbers and numbersOf, laws sineRefusal and numberOf. Definitions only.
+use Prim.Native.Nat.{ℕ, zero, suc, _-_, _*_, _/_, _%_, _^_, _≤_}
 use mathlib.Core.Bool.{Bool, true, false, cond}
 use mathlib.Core.List.{List, [], _∷_}
 use lib.Dec.{T, ltb, leb, eqb}
@@ -9,7 +9,7 @@ use lib.Ieee.Positive.{num, den}
 use Rattle.numbers.specs.Refusals.{byArgument}
 use Rattle.functions.specs.declared.Sine.{Sine}
 use Rattle.functions.specs.declared.Sine.the-variants.{Value, Refused}
-use Rattle.num.specs.Floats.{sign}
+use Rattle.num.specs.Floats.{nought, sign}
 use Rattle.functions.specs.Fraction.{Fraction, alternating, negated}
 use Rattle.functions.specs.Reduction.{nearestOf, leftOf, belowOf, kOf}
 use Rattle.functions.specs.Words.{falling, upper, packed, unitsOf}
@@ -77,14 +77,21 @@ sinOf nan = Value nan
 sinOf (inf s) = Value nan
 sinOf (fin s m e) = pick (leb (num (fin s m e)) (2 ^ 20 * den (fin s m e))) (Value (sinNear (fin s m e))) Refused
 
--- the paper's number for an answer, 0 where it is no refusal, and the answer's value
+-- the numbers of an answer: the refusal, 0 if none, and the value, 0.0 if refused
+pub record Numbers : Type 0 where
+  pub refusal : ℕ
+  pub value : Float
+
+abbrev pub numbersOf : Sine → Numbers
+numbersOf (Value r) = record { refusal = 0; value = r }
+numbersOf Refused = record { refusal = byArgument; value = nought }
+
+-- each by itself, as the laws say it
 abbrev pub sineRefusal : Sine → ℕ
-sineRefusal (Value r) = 0
-sineRefusal Refused = byArgument
+sineRefusal s = numbersOf s .refusal
 
 abbrev pub numberOf : Sine → Float
-numberOf (Value r) = r
-numberOf Refused = nan
+numberOf s = numbersOf s .value
 
 -- ---- what the bound speaks of
 

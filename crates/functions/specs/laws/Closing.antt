@@ -1,15 +1,16 @@
 -- From a word to the bound: a fixed-point number p that is a fraction to a few units, and the float that is packed from p, make `Within`. Assumes nothing.
 use mathlib.Core.Path.{_≡_, refl, sym, ap, _∙_, subst}
 use mathlib.Core.Bool.{Bool, true, false, cond, true≢false}
-use Prim.Native.Nat.{ℕ, _+_, _-_, _*_, _^_, _≤_, _<_}
+use Prim.Native.Nat.{ℕ, _+_, _*_, _^_, _≤_}
 use native.Mathlib.Nat.{mul-le-mul-right, le-of-mul-le-mul-right, eq-of-mul-eq-mul-right, mul-assoc}
 use native.Mathlib.Omega.{arith}
-use lib.Dec.{lit≤}
+use lib.Dec.{T}
 use lib.Pow.{pow-add, pow-pos}
 use lib.Ieee.{Float, nan, inf, fin, neg, unlike, binary64, ofBits}
 use lib.Ieee.Exact.{HasValue}
+use lib.Ieee.Scale.{finite}
 use lib.Ieee.Positive.{num, den, value→cross}
-use Rattle.functions.specs.Fraction.{Fraction, Within, negated, valueOf}
+use Rattle.functions.specs.Fraction.{Fraction, Within, FiniteWithin, negated, valueOf}
 use Rattle.functions.specs.Words.{packed}
 use Rattle.functions.specs.laws.Packed.{Cut}
 
@@ -75,10 +76,21 @@ negated-twice false true a = refl
 negated-twice false false a = refl
 
 -- a float whose sign is turned
-pub value-turned : (r : Float) (s : Bool) (a c : ℕ) → HasValue r false a c → valueOf (cond s (neg r) r) ≡ negated s (record { plus = num r; minus = 0; den = den r })
+value-turned : (r : Float) (s : Bool) (a c : ℕ) → HasValue r false a c → valueOf (cond s (neg r) r) ≡ negated s (record { plus = num r; minus = 0; den = den r })
 unfolding neg
 value-turned nan s a c v = absurd v
 value-turned (inf t) s a c v = absurd v
 value-turned (fin true m e) s a c v = absurd (true≢false (v .0))
 value-turned (fin false m e) true a c v = refl
 value-turned (fin false m e) false a c v = refl
+
+number-turned : (r : Float) (s : Bool) (a c : ℕ) → HasValue r false a c → T (finite (cond s (neg r) r))
+unfolding neg
+number-turned nan s a c v = absurd v
+number-turned (inf t) s a c v = absurd v
+number-turned (fin t m e) true a c v = tt
+number-turned (fin t m e) false a c v = tt
+
+-- is a finite number, and as near to X as its fraction
+pub turned-within : (t : ℕ) (r : Float) (s : Bool) (a c : ℕ) (X : Fraction) → HasValue r false a c → Within t (negated s (record { plus = num r; minus = 0; den = den r })) X → FiniteWithin t (cond s (neg r) r) X
+turned-within t r s a c X v w = record { number = number-turned r s a c v; close = subst (λ (f : Fraction). Within t f X) (sym (value-turned r s a c v)) w }

@@ -1,23 +1,23 @@
 -- exp's answer keeps its bound, for every size n / d up to 709, and up to 708 below zero. Assumes nothing.
 use mathlib.Core.Path.{_≡_, refl, sym, ap, _∙_, subst}
 use mathlib.Core.Bool.{Bool, true, false, cond, not, true≢false}
-use Prim.Native.Nat.{ℕ, zero, suc, _+_, _-_, _*_, _/_, _%_, _^_, _≤_, _<_}
-use native.Mathlib.Nat.{le-trans, le-of-lt, le-refl, mul-le-mul, mul-le-mul-left, mul-le-mul-right, le-of-mul-le-mul-right, eq-of-mul-eq-mul-right, div-mul-le-self, lt-div-mul-add, div-le-of-le-mul, div-lt-iff-lt-mul, mul-assoc, mul-comm, le-add-right, sub-add-cancel}
+use Prim.Native.Nat.{ℕ, _+_, _-_, _*_, _/_, _^_, _≤_, _<_}
+use native.Mathlib.Nat.{le-trans, le-of-lt, mul-le-mul, mul-le-mul-right, mul-pos, le-of-mul-le-mul-right, eq-of-mul-eq-mul-right, div-mul-le-self, lt-div-mul-add, div-le-of-le-mul, div-lt-iff-lt-mul, mul-assoc, mul-comm, le-add-right, sub-add-cancel}
 use native.Mathlib.Omega.{arith}
 use lib.IntN.{pos}
 use lib.Dec.{T, lit<, lit≤}
 use lib.Pow.{pow-add, pow-pos}
-use lib.Ieee.{Float, nan, inf, fin, binary64, ofBits, unlike, lt, isNan, up, down}
+use lib.Ieee.{Float, nan, inf, fin, unlike, lt, isNan, up, down}
 use lib.Ieee.Scale.{finite}
-use lib.Ieee.Positive.{num, den, den-pos, value→cross}
+use lib.Ieee.Positive.{num, den, den-pos, positive, value→cross, positive-of-value}
 use borrow.Author.Tests.{ltb-false}
 use Rattle.num.specs.Floats.{sign}
-use Rattle.functions.specs.Fraction.{Fraction, Within, sumOf}
+use Rattle.functions.specs.Fraction.{Within, sumOf}
 use Rattle.functions.specs.Reduction.{nearestOf, leftOf, belowOf, kOf, fTop, fBottom, fMinus}
-use Rattle.functions.specs.Words.{horner, upper, packed, Room}
+use Rattle.functions.specs.Words.{horner, upper, Room}
 use Rattle.functions.specs.Exp.{ell, evens, odds, evenWords, oddWords, fixedExp, powerSum, overPower, expSize, expFinite, expOf, highest, lowest, ExpRange}
 use Rattle.functions.specs.laws.Product.{square-low, square-high, times-low, times-high}
-use Rattle.functions.specs.laws.Horner.{Close, horner-close, slack}
+use Rattle.functions.specs.laws.Horner.{Close, horner-small, horner-close, slack}
 use Rattle.functions.specs.laws.Packed.{Cut, cut, room-wide}
 use Rattle.functions.specs.laws.Closing.{Fixed, within-cut}
 use Rattle.functions.specs.laws.Reduced as reduced
@@ -25,6 +25,48 @@ use Rattle.functions.specs.laws.Reduced as reduced
 -- L / 2 in units of 2 ^ -64
 abbrev pub half : ℕ
 half = 6393154322601327830
+
+-- ---- how large the sum is, by the size of its words alone: what exp's own functions need
+module _ (f : ℕ) (b : f ≤ half) where
+  square : f * f / 2 ^ 64 ≤ 2 ^ 61 - 3
+  square = div-le-of-le-mul (2 ^ 64) (le-trans (mul-le-mul b b) (lit≤ tt))
+
+  pub square-small : upper f f ≤ 2 ^ 62
+  square-small = le-trans square (lit≤ tt)
+
+  eighth : 8 * (f * f / 2 ^ 64) ≤ 2 ^ 64
+  eighth = go (f * f / 2 ^ 64) square
+    where
+      go : (y : ℕ) → y ≤ 2 ^ 61 - 3 → 8 * y ≤ 2 ^ 64
+      go y p = omega arith
+
+  even-most : horner evenWords (upper f f) ≤ 2 ^ 62 + 2 ^ 60
+  even-most = horner-small (f * f / 2 ^ 64) eighth evenWords tt
+
+  odd-most : horner oddWords (upper f f) ≤ 2 ^ 62 + 2 ^ 60
+  odd-most = horner-small (f * f / 2 ^ 64) eighth oddWords tt
+
+  -- the odd part is at most 0.4333 of 2 ^ 62
+  odd-small : upper f (horner oddWords (upper f f)) ≤ 1997860725812914947
+  odd-small = div-le-of-le-mul (2 ^ 64) (le-trans (mul-le-mul b odd-most) (lit≤ tt))
+
+  even-least : 2 ^ 62 ≤ horner evenWords (upper f f)
+  unfolding horner
+  even-least = le-add-right (2 ^ 62) _
+
+  pub fits-minus : upper f (horner oddWords (upper f f)) ≤ horner evenWords (upper f f)
+  fits-minus = le-trans odd-small (le-trans (lit≤ tt) even-least)
+
+  pub sum-of-word : (s : Bool) → (2 ^ 61 ≤ fixedExp s f) × (fixedExp s f + 2 ^ 9 < 2 ^ 63)
+  unfolding fixedExp
+  sum-of-word true = go (horner evenWords (upper f f)) (upper f (horner oddWords (upper f f))) even-least even-most odd-small
+    where
+      go : (e o : ℕ) → 2 ^ 62 ≤ e → e ≤ 2 ^ 62 + 2 ^ 60 → o ≤ 1997860725812914947 → (2 ^ 61 ≤ e - o) × (e - o + 2 ^ 9 < 2 ^ 63)
+      go e o p q r = omega arith
+  sum-of-word false = go (horner evenWords (upper f f)) (upper f (horner oddWords (upper f f))) even-least even-most odd-small
+    where
+      go : (e o : ℕ) → 2 ^ 62 ≤ e → e ≤ 2 ^ 62 + 2 ^ 60 → o ≤ 1997860725812914947 → (2 ^ 61 ≤ e + o) × (e + o + 2 ^ 9 < 2 ^ 63)
+      go e o p q r = omega arith
 
 -- ---- the sum, at f = F / G and its word
 module _ (F G f : ℕ) (l : f * G ≤ F * 2 ^ 64) (h : F * 2 ^ 64 ≤ (f + 1) * G) (b : f ≤ half) where
@@ -38,7 +80,7 @@ module _ (F G f : ℕ) (l : f * G ≤ F * 2 ^ 64) (h : F * 2 ^ 64 ≤ (f + 1) * 
       twice n p = omega arith
 
   yb : 8 * (f * f / 2 ^ 64 + 3) ≤ 1 * 2 ^ 64
-  yb = go (f * f / 2 ^ 64) (div-le-of-le-mul (2 ^ 64) (le-trans (mul-le-mul b b) (lit≤ tt)))
+  yb = go (f * f / 2 ^ 64) (square f b)
     where
       go : (y : ℕ) → y ≤ 2 ^ 61 - 3 → 8 * (y + 3) ≤ 1 * 2 ^ 64
       go y p = omega arith
@@ -51,11 +93,11 @@ module _ (F G f : ℕ) (l : f * G ≤ F * 2 ^ 64) (h : F * 2 ^ 64 ≤ (f + 1) * 
 
   even-close : Close (horner evenWords (upper f f)) (sumOf evens (F * F) (G * G)) (6227020800 * (G * G) ^ 6) 4
   unfolding slack
-  even-close = horner-close 6227020800 (f * f / 2 ^ 64) (F * F) (G * G) yl yh 8 1 yb (lit≤ tt) _ _ _ _ tt
+  even-close = horner-close 6227020800 (f * f / 2 ^ 64) (F * F) (G * G) yl yh 8 1 yb (lit≤ tt) _ _ _ _ tt tt
 
   odd-close : Close (horner oddWords (upper f f)) (sumOf odds (F * F) (G * G)) (6227020800 * (G * G) ^ 6) 4
   unfolding slack
-  odd-close = horner-close 6227020800 (f * f / 2 ^ 64) (F * F) (G * G) yl yh 8 1 yb (lit≤ tt) _ _ _ _ tt
+  odd-close = horner-close 6227020800 (f * f / 2 ^ 64) (F * F) (G * G) yl yh 8 1 yb (lit≤ tt) _ _ _ _ tt tt
 
   odd-low : upper f (horner oddWords (upper f f)) * (6227020800 * (G * G) ^ 6 * G) ≤ F * sumOf odds (F * F) (G * G) * 2 ^ 62 + 4 * (6227020800 * (G * G) ^ 6 * G)
   odd-low =
@@ -66,32 +108,10 @@ module _ (F G f : ℕ) (l : f * G ≤ F * 2 ^ 64) (h : F * 2 ^ 64 ≤ (f + 1) * 
   odd-high =
       let O = horner oddWords (upper f f) in
       times-high F G f O (f * O / 2 ^ 64) (sumOf odds (F * F) (G * G)) (6227020800 * (G * G) ^ 6) (2 ^ 62) (2 ^ 64) 4 1 (lit< tt) h (odd-close .high) (le-of-lt (lt-div-mul-add (lit< tt)))
-      (le-trans (odd-close .small) (lit≤ tt)) (go f b)
+      (le-trans (odd-most f b) (lit≤ tt)) (go f b)
     where
       go : (n : ℕ) → n ≤ half → n + 1 ≤ 2 ^ 64
       go n p = omega arith
-
-  -- the odd part is at most 0.4333 of 2 ^ 62
-  odd-small : upper f (horner oddWords (upper f f)) ≤ 1997860725812914947
-  odd-small = div-le-of-le-mul (2 ^ 64) (le-trans (mul-le-mul b (odd-close .small)) (lit≤ tt))
-
-  even-least : 2 ^ 62 ≤ horner evenWords (upper f f)
-  unfolding horner
-  even-least = le-add-right (2 ^ 62) _
-
-  taken : upper f (horner oddWords (upper f f)) ≤ horner evenWords (upper f f)
-  taken = le-trans odd-small (le-trans (lit≤ tt) even-least)
-
-  sum-range : (s : Bool) → (2 ^ 61 ≤ fixedExp s f) × (fixedExp s f + 2 ^ 9 < 2 ^ 63)
-  unfolding fixedExp
-  sum-range true = go (horner evenWords (upper f f)) (upper f (horner oddWords (upper f f))) even-least (even-close .small) odd-small
-    where
-      go : (e o : ℕ) → 2 ^ 62 ≤ e → e ≤ 2 ^ 62 + 2 ^ 60 → o ≤ 1997860725812914947 → (2 ^ 61 ≤ e - o) × (e - o + 2 ^ 9 < 2 ^ 63)
-      go e o p q r = omega arith
-  sum-range false = go (horner evenWords (upper f f)) (upper f (horner oddWords (upper f f))) even-least (even-close .small) odd-small
-    where
-      go : (e o : ℕ) → 2 ^ 62 ≤ e → e ≤ 2 ^ 62 + 2 ^ 60 → o ≤ 1997860725812914947 → (2 ^ 61 ≤ e + o) × (e + o + 2 ^ 9 < 2 ^ 63)
-      go e o p q r = omega arith
 
   sum-fixed : (s : Bool) → Fixed 62 10 (fixedExp s f) (powerSum s F G)
   unfolding fixedExp powerSum
@@ -114,8 +134,8 @@ module _ (F G f : ℕ) (l : f * G ≤ F * 2 ^ 64) (h : F * 2 ^ 64 ≤ (f + 1) * 
       let E = horner evenWords (upper f f) in
       let o = upper f (horner oddWords (upper f f)) in
       record {
-        low = low-sum E o (E - o) (sumOf evens (F * F) (G * G)) (F * sumOf odds (F * F) (G * G)) W (2 ^ 62) (sub-add-cancel taken) (mul-le-mul-right G (even-close .low)) odd-high;
-        high = high-sum E o (E - o) (sumOf evens (F * F) (G * G)) (F * sumOf odds (F * F) (G * G)) W (2 ^ 62) (sub-add-cancel taken) (mul-le-mul-right G (even-close .high)) odd-low;
+        low = low-sum E o (E - o) (sumOf evens (F * F) (G * G)) (F * sumOf odds (F * F) (G * G)) W (2 ^ 62) (sub-add-cancel (fits-minus f b)) (mul-le-mul-right G (even-close .low)) odd-high;
+        high = high-sum E o (E - o) (sumOf evens (F * F) (G * G)) (F * sumOf odds (F * F) (G * G)) W (2 ^ 62) (sub-add-cancel (fits-minus f b)) (mul-le-mul-right G (even-close .high)) odd-low;
       }
     where
       low-sum : (e o p S R W P : ℕ) → p + o ≡ e → e * W * G ≤ (S * P + 4 * W) * G → R * P ≤ (o + 1 + 4 + 1) * (W * G) → p * (W * G) + R * P ≤ G * S * P + 10 * (W * G)
@@ -123,19 +143,6 @@ module _ (F G f : ℕ) (l : f * G ≤ F * 2 ^ 64) (h : F * 2 ^ 64 ≤ (f + 1) * 
 
       high-sum : (e o p S R W P : ℕ) → p + o ≡ e → S * P * G ≤ (e + 4) * W * G → o * (W * G) ≤ R * P + 4 * (W * G) → G * S * P ≤ (p + 10) * (W * G) + R * P
       high-sum e o p S R W P q r s = omega (arith, ap (λ (n : ℕ). n * (W * G)) q)
-
--- ---- what exp's own functions need of the sum: every word f stands for the fraction f / 2 ^ 64
-as-word : (f : ℕ) → f * 2 ^ 64 ≤ (f + 1) * 2 ^ 64
-as-word f = omega arith
-
-pub square-small : (f : ℕ) → f ≤ half → upper f f ≤ 2 ^ 62
-square-small f b = div-le-of-le-mul (2 ^ 64) (le-trans (mul-le-mul b b) (lit≤ tt))
-
-pub fits-minus : (f : ℕ) → f ≤ half → upper f (horner oddWords (upper f f)) ≤ horner evenWords (upper f f)
-fits-minus f b = taken f (2 ^ 64) f (le-refl (f * 2 ^ 64)) (as-word f) b
-
-pub sum-of-word : (f : ℕ) → f ≤ half → (s : Bool) → (2 ^ 61 ≤ fixedExp s f) × (fixedExp s f + 2 ^ 9 < 2 ^ 63)
-sum-of-word f b s = sum-range f (2 ^ 64) f (le-refl (f * 2 ^ 64)) (as-word f) b s
 
 -- ---- k
 module _ (n d : ℕ) (dp : 0 < d) where
@@ -199,25 +206,51 @@ word-lt : (p : ℕ) → p + 2 ^ 9 < 2 ^ 63 → p < 2 ^ 64
 word-lt p h = omega arith
 
 -- ---- the bound at a size
+abbrev fieldOf : Bool → ℕ → ℕ
+fieldOf s k = cond s (1023 - k) (1023 + k)
+
+abbrev wordOf : Bool → ℕ → ℕ → ℕ
+wordOf s n d = fixedExp (unlike s (belowOf ell n d)) (leftOf ell n d / d)
+
+module _ (s : Bool) (n d : ℕ) (dp : 0 < d) (u : s ≡ false → n ≤ 709 * d) (l : s ≡ true → n ≤ 708 * d) where
+  field-range : (2 ≤ fieldOf s (nearestOf ell n d)) × (fieldOf s (nearestOf ell n d) ≤ 2046)
+  field-range = go s u l
+    where
+      go : (t : Bool) → (t ≡ false → n ≤ 709 * d) → (t ≡ true → n ≤ 708 * d) → (2 ≤ fieldOf t (nearestOf ell n d)) × (fieldOf t (nearestOf ell n d) ≤ 2046)
+      go false p q = let k = k-up n d dp (p refl) in (omega arith, omega arith)
+      go true p q = let k = k-down n d dp (q refl) in (omega arith, omega arith)
+
+  size-cut : Cut (fieldOf s (nearestOf ell n d)) (wordOf s n d) (expSize s n d)
+  unfolding expSize
+  size-cut =
+      let t = unlike s (belowOf ell n d) in
+      let b = fieldOf s (nearestOf ell n d) in
+      cut b (wordOf s n d) (word-lt (wordOf s n d) (sum-of-word (leftOf ell n d / d) (f-small n d dp) t .1)) (sum-room n d dp t b (field-range .0) (field-range .1))
+
+  size-positive : T (positive (expSize s n d))
+  size-positive =
+      let c = size-cut in
+      positive-of-value (expSize s n d) (c .v * 2 ^ fieldOf s (nearestOf ell n d)) (2 ^ 1085) (c .value)
+      (mul-pos (some (wordOf s n d) (c .v) (sum-of-word (leftOf ell n d / d) (f-small n d dp) (unlike s (belowOf ell n d)) .0) (c .high)) (pow-pos (fieldOf s (nearestOf ell n d))))
+    where
+      some : (p v : ℕ) → 2 ^ 61 ≤ p → p ≤ v + 1024 → 0 < v
+      some p v g h = omega arith
+
 size-close : (s : Bool) (n d : ℕ) → 0 < d → (s ≡ false → n ≤ 709 * d) → (s ≡ true → n ≤ 708 * d)
     → Within 40 (overPower s (nearestOf ell n d) (expSize s n d)) (powerSum (unlike s (belowOf ell n d)) (leftOf ell n d) (2 ^ 64 * d))
-unfolding expSize
 size-close false n d dp u l =
     let k = nearestOf ell n d in
-    let kb = k-up n d dp (u refl) in
     let t = unlike false (belowOf ell n d) in
-    let p = fixedExp t (leftOf ell n d / d) in
-    let c = cut (1023 + k) p (word-lt p (sum-of-word (leftOf ell n d / d) (f-small n d dp) t .1)) (sum-room n d dp t (1023 + k) (omega arith) (omega arith)) in
+    let c = size-cut false n d dp u l in
     let r = expSize false n d in
-    within-cut 62 10 p (c .v) (num r) (den r * 2 ^ k) (powerSum t (leftOf ell n d) (2 ^ 64 * d)) (up-scale k (c .v) (num r) (den r) (value→cross r (c .v * 2 ^ (1023 + k)) (2 ^ 1085) (c .value))) (c .low) (c .high) (fixed n d dp t) (lit≤ tt)
+    within-cut 62 10 (wordOf false n d) (c .v) (num r) (den r * 2 ^ k) (powerSum t (leftOf ell n d) (2 ^ 64 * d)) (up-scale k (c .v) (num r) (den r) (value→cross r (c .v * 2 ^ (1023 + k)) (2 ^ 1085) (c .value))) (c .low) (c .high) (fixed n d dp t) (lit≤ tt)
 size-close true n d dp u l =
     let k = nearestOf ell n d in
     let kb = k-down n d dp (l refl) in
     let t = unlike true (belowOf ell n d) in
-    let p = fixedExp t (leftOf ell n d / d) in
-    let c = cut (1023 - k) p (word-lt p (sum-of-word (leftOf ell n d / d) (f-small n d dp) t .1)) (sum-room n d dp t (1023 - k) (omega arith) (omega arith)) in
+    let c = size-cut true n d dp u l in
     let r = expSize true n d in
-    within-cut 62 10 p (c .v) (num r * 2 ^ k) (den r) (powerSum t (leftOf ell n d) (2 ^ 64 * d)) (down-scale k (c .v) (num r) (den r) (omega arith) (value→cross r (c .v * 2 ^ (1023 - k)) (2 ^ 1085) (c .value))) (c .low) (c .high) (fixed n d dp t) (lit≤ tt)
+    within-cut 62 10 (wordOf true n d) (c .v) (num r * 2 ^ k) (den r) (powerSum t (leftOf ell n d) (2 ^ 64 * d)) (down-scale k (c .v) (num r) (den r) (omega arith) (value→cross r (c .v * 2 ^ (1023 - k)) (2 ^ 1085) (c .value))) (c .low) (c .high) (fixed n d dp t) (lit≤ tt)
 
 -- ---- the range's ends, and the branch that it takes
 finite-of : (x : Float) → T (not (isNan x)) → lt highest x ≡ false → lt x lowest ≡ false → T (finite x)
@@ -268,7 +301,7 @@ in-range x r =
     ∙ ap (λ (t : Bool). cond t (fin false 0 (pos 0)) (expFinite x)) (r .least)
     ∙ at-finite x (is-finite x r)
 
-pub close : (x : Float) → ExpRange x → Within 40 (overPower (sign x) (kOf ell x) (expOf x)) (powerSum (fMinus ell x) (fTop ell x) (fBottom x))
+pub close : (x : Float) → ExpRange x → T (positive (expOf x)) × Within 40 (overPower (sign x) (kOf ell x) (expOf x)) (powerSum (fMinus ell x) (fTop ell x) (fBottom x))
 close x r =
-    subst (λ (y : Float). Within 40 (overPower (sign x) (kOf ell x) y) (powerSum (fMinus ell x) (fTop ell x) (fBottom x))) (sym (in-range x r))
-    (size-close (sign x) (num x) (den x) (den-pos x) (up-to x r) (down-to x r))
+    subst (λ (y : Float). T (positive y) × Within 40 (overPower (sign x) (kOf ell x) y) (powerSum (fMinus ell x) (fTop ell x) (fBottom x))) (sym (in-range x r))
+    (size-positive (sign x) (num x) (den x) (den-pos x) (up-to x r) (down-to x r), size-close (sign x) (num x) (den x) (den-pos x) (up-to x r) (down-to x r))

@@ -1,32 +1,50 @@
 -- ln's answer keeps its bound at every finite x above 0. Assumes nothing.
 use mathlib.Core.Path.{_≡_, refl, sym, ap, _∙_, subst}
 use mathlib.Core.Bool.{Bool, true, false, cond, not, Bool·beq, true≢false}
-use Prim.Native.Nat.{ℕ, zero, suc, _+_, _-_, _*_, _/_, _%_, _^_, _≤_, _<_}
-use native.Mathlib.Nat.{le-trans, le-of-lt, mul-le-mul, mul-le-mul-left, mul-le-mul-right, mul-lt-mul-of-pos-right, lt-of-mul-lt-mul-right, le-of-mul-le-mul-right, eq-of-mul-eq-mul-right, div-mul-le-self, lt-div-mul-add, div-le-of-le-mul, mul-comm, mul-assoc, mul-pos, mul-sub, add-mul, sub-add-cancel}
+use Prim.Native.Nat.{ℕ, zero, suc, _+_, _-_, _*_, _/_, _^_, _≤_, _<_}
+use native.Mathlib.Nat.{le-trans, le-of-lt, mul-le-mul, mul-le-mul-right, mul-lt-mul-of-pos-right, lt-of-mul-lt-mul-right, le-of-mul-le-mul-right, div-mul-le-self, lt-div-mul-add, div-le-of-le-mul, mul-comm, mul-assoc, mul-pos, mul-sub, add-mul, sub-add-cancel}
 use native.Mathlib.Omega.{arith}
-use lib.Dec.{T, ltb, leb, eqb, leb→le, nleb→lt, eqb→eq, ltb→lt, nltb→le, lit<, lit≤}
+use lib.Dec.{T, ltb, eqb, eqb→eq, ltb→lt, nltb→le, lit<, lit≤}
 use lib.Pow.{pow-add, pow-pos}
-use lib.Ieee.{Float, binary64, neg, ofBits}
-use lib.Ieee.Positive.{num, den, value→cross}
+use lib.Ieee.{binary64, ofBits}
+use lib.Ieee.Positive.{num, den}
 use lib.Ieee.Nearest.{div-mono}
 use borrow.Author.Tests.{lt-ltb, le-ltb}
-use Rattle.functions.specs.Fraction.{Fraction, Within, added, negated, valueOf, apart, sumOf}
+use Rattle.functions.specs.Fraction.{Fraction, Within, FiniteWithin, added, negated, apart, sumOf}
 use Rattle.functions.specs.Words.{horner, upper, packed}
 use Rattle.functions.specs.Exp.{ell}
 use Rattle.functions.specs.Ln.{lnWords, lnWord, zWord, oneOf, lnSize, unitOf, minusOf, placeOf, lnAnswer, Digits, lnTerms, lnSeries}
 use Rattle.functions.specs.laws.Product.{square-low, square-high, times-low, times-high}
-use Rattle.functions.specs.laws.Horner.{Close, horner-close, slack}
+use Rattle.functions.specs.laws.Horner.{Close, horner-small, horner-close, slack}
 use Rattle.functions.specs.laws.Packed.{Cut, cut, room}
-use Rattle.functions.specs.laws.Closing.{Fixed, packed-within, within-negated, value-turned}
+use Rattle.functions.specs.laws.Closing.{Fixed, packed-within, within-negated, turned-within}
 
 -- 1 / 5 in units of 2 ^ -64
 abbrev pub fifth : ℕ
 fifth = 3689348814741910324
 
+-- ---- how large the sum is, by the size of its words alone
+module _ (f : ℕ) (b : f ≤ fifth) where
+  square : f * f / 2 ^ 64 ≤ 2 ^ 60 - 3
+  square = div-le-of-le-mul (2 ^ 64) (le-trans (mul-le-mul b b) (lit≤ tt))
+
+  pub square-small : upper f f ≤ 2 ^ 62
+  square-small = le-trans square (lit≤ tt)
+
+  sum-small : horner lnWords (upper f f) ≤ 2 ^ 62 + 2 ^ 60
+  sum-small = horner-small (f * f / 2 ^ 64) (go (f * f / 2 ^ 64) square) lnWords tt
+    where
+      go : (y : ℕ) → y ≤ 2 ^ 60 - 3 → 8 * y ≤ 2 ^ 64
+      go y p = omega arith
+
+  series-small : lnWord f ≤ 2 ^ 60 + 1
+  unfolding lnWord
+  series-small = div-le-of-le-mul (2 ^ 64) (le-trans (mul-le-mul b sum-small) (lit≤ tt))
+
 -- ---- the series, at z = F / G up to 1 / 5 and its word, which lacks 2 units at most
 module _ (F G f : ℕ) (l : f * G ≤ F * 2 ^ 64) (h : F * 2 ^ 64 ≤ (f + 2) * G) (b : f ≤ fifth) where
   yb : 16 * (f * f / 2 ^ 64 + 3) ≤ 1 * 2 ^ 64
-  yb = go (f * f / 2 ^ 64) (div-le-of-le-mul (2 ^ 64) (le-trans (mul-le-mul b b) (lit≤ tt)))
+  yb = go (f * f / 2 ^ 64) (square f b)
     where
       go : (y : ℕ) → y ≤ 2 ^ 60 - 3 → 16 * (y + 3) ≤ 1 * 2 ^ 64
       go y p = omega arith
@@ -39,7 +57,7 @@ module _ (F G f : ℕ) (l : f * G ≤ F * 2 ^ 64) (h : F * 2 ^ 64 ≤ (f + 2) * 
 
   series-close : Close (horner lnWords (upper f f)) (sumOf lnTerms (F * F) (G * G)) (14549535 * (G * G) ^ 9) 131076
   unfolding slack
-  series-close = horner-close 14549535 (f * f / 2 ^ 64) (F * F) (G * G) (square-low F G f (f * f / 2 ^ 64) (2 ^ 64) (lit< tt) l (div-mul-le-self (f * f) (2 ^ 64))) yh 16 (2 ^ 53) yb (lit≤ tt) _ _ _ _ tt
+  series-close = horner-close 14549535 (f * f / 2 ^ 64) (F * F) (G * G) (square-low F G f (f * f / 2 ^ 64) (2 ^ 64) (lit< tt) l (div-mul-le-self (f * f) (2 ^ 64))) yh 16 (2 ^ 53) yb (lit≤ tt) _ _ _ _ tt tt
 
   short : f + 2 ≤ 2 ^ 64
   short = go f b
@@ -61,14 +79,7 @@ module _ (F G f : ℕ) (l : f * G ≤ F * 2 ^ 64) (h : F * 2 ^ 64 ≤ (f + 2) * 
   series-high =
       let O = horner lnWords (upper f f) in
       times-high F G f O (f * O / 2 ^ 64) (sumOf lnTerms (F * F) (G * G)) (14549535 * (G * G) ^ 9) (2 ^ 62) (2 ^ 64) 131076 2 (lit< tt) h (series-close .high) (le-of-lt (lt-div-mul-add (lit< tt)))
-      (le-trans (series-close .small) (lit≤ tt)) short
-
-  series-small : lnWord f ≤ 2 ^ 60 + 1
-  unfolding lnWord
-  series-small = div-le-of-le-mul (2 ^ 64) (le-trans (mul-le-mul b (series-close .small)) (lit≤ tt))
-
-pub square-small : (f : ℕ) → f ≤ fifth → upper f f ≤ 2 ^ 62
-square-small f b = div-le-of-le-mul (2 ^ 64) (le-trans (mul-le-mul b b) (lit≤ tt))
+      (le-trans (sum-small f b) (lit≤ tt)) short
 
 -- ---- from m = q / o to any a / b of the same size: z's word serves both
 sub-mul : (x y z : ℕ) → x * z - y * z ≡ (x - y) * z
@@ -129,9 +140,7 @@ sum-pos false q = omega arith
 sum-pos true q = omega arith
 
 pub word-small : (h : Bool) (q : ℕ) → Digits h q → lnWord (zWord q (oneOf h)) ≤ 2 ^ 60 + 1
-word-small h q r =
-    let o = oneOf h in
-    series-small (apart q o) (q + o) (zWord q o) (word-low q o q o (one-pos h) (sum-pos h q) refl) (word-high q o q o (one-pos h) (sum-pos h q) refl) (z-small h q r)
+word-small h q r = series-small (zWord q (oneOf h)) (z-small h q r)
 
 -- ---- the size, in units of 1 / P: e L and the series, added or taken away. D P is 2 ^ 64, and E is D / 8
 -- the size's fraction, for an e of size k and a series R / H
@@ -479,7 +488,7 @@ module _ (n d c q : ℕ) (h : Bool) (dp : 0 < d) (e : n * 2 ^ 1127 ≡ q * 2 ^ c
       go : (x y z : ℕ) → x * 2 ^ 62 ≤ (y + 1 + 131076 + 2) * z → 2 * x * 2 ^ 64 ≤ 8 * ((y + 131079) * z)
       go x y z p = omega arith
 
-  pub close : Within 40 (valueOf (lnAnswer c q h)) (added (record { plus = placeOf c h * ell; minus = 1075 * ell; den = 2 ^ 64 }) (lnSeries a b))
+  pub close : FiniteWithin 40 (lnAnswer c q h) (added (record { plus = placeOf c h * ell; minus = 1075 * ell; den = 2 ^ 64 }) (lnSeries a b))
   unfolding lnAnswer lnSeries
   close =
       let p = placeOf c h in
@@ -489,7 +498,7 @@ module _ (n d c q : ℕ) (h : Bool) (dp : 0 < d) (e : n * 2 ^ 1127 ≡ q * 2 ^ c
       let A = ofBits binary64 (packed (1021 + unitOf k) (lnSize (unitOf k) k w same)) in
       let z = signs p h (eqb k 0) (ltb p 1075) (eqb→eq k 0) (ltb→lt p 1075) (nltb→le p 1075) in
       let v = has-value k w same (k-small c h cb) (word-small h q r) in
-      subst (λ (x : Fraction). Within 40 x (added (record { plus = p * ell; minus = 1075 * ell; den = 2 ^ 64 }) (lnSeries a b))) (sym (value-turned A mn (v .v * 2 ^ (1021 + unitOf k)) (2 ^ 1085) (v .value)))
+      turned-within 40 A mn (v .v * 2 ^ (1021 + unitOf k)) (2 ^ 1085) (added (record { plus = p * ell; minus = 1075 * ell; den = 2 ^ 64 }) (lnSeries a b)) (v .value)
       (subst (λ (x : Bool). Within 40 (negated mn (record { plus = num A; minus = 0; den = den A })) (goal p 1075 x R H)) (sym side)
       (aim mn h p 1075 k R H (record { plus = num A; minus = 0; den = den A }) (z .0) (z .1)
       (sized k w R H same low8 high8 (k-some p h) (word-small h q r) (k-small c h cb))))

@@ -1,7 +1,7 @@
 -- f is at most half of the modulus, and its word, in units of 2 ^ -64, lacks less than one unit. Below 1/4 a size is its own f. Assumes nothing.
 use mathlib.Core.Path.{_≡_, ap, _∙_}
 use mathlib.Core.Bool.{false}
-use Prim.Native.Nat.{ℕ, _+_, _-_, _*_, _/_, _^_, _≤_, _<_}
+use Prim.Native.Nat.{ℕ, _+_, _*_, _/_, _^_, _≤_, _<_}
 use native.Mathlib.Nat.{mul-le-mul-right, le-of-lt, div-mul-le-self, lt-div-mul-add, div-le-of-le-mul, div-eq-of-lt}
 use native.Mathlib.Omega.{arith}
 use lib.Dec.{ltb}
@@ -10,7 +10,7 @@ use Rattle.functions.specs.Fraction.{apart}
 use Rattle.functions.specs.Reduction.{nearestOf, leftOf, belowOf}
 
 module _ (M n d : ℕ) (mp : 0 < M * d) (dp : 0 < d) where
-  left-small : 2 * leftOf M n d ≤ M * d
+  pub left-small : 2 * leftOf M n d ≤ M * d
   unfolding leftOf nearestOf
   left-small =
       let N = n * 2 ^ 64 in

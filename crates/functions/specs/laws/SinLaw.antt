@@ -2,7 +2,7 @@
 use mathlib.Core.Path.{_≡_, refl, sym, ap, _∙_, subst}
 use mathlib.Core.Bool.{Bool, true, false, not, cond}
 use Prim.Native.Nat.{ℕ, zero, suc, _+_, _-_, _*_, _/_, _%_, _^_, _≤_, _<_}
-use native.Mathlib.Nat.{le-trans, le-of-lt, le-refl, mul-le-mul, mul-le-mul-left, mul-le-mul-right, le-of-mul-le-mul-right, eq-of-mul-eq-mul-right, div-mul-le-self, lt-div-mul-add, div-le-of-le-mul, div-lt-iff-lt-mul, div-eq-of-lt, lt-of-lt-of-le, lt-of-le-of-lt, lt-of-mul-lt-mul-right, mul-lt-mul-of-pos-right, mul-assoc, mul-comm, mod-lt}
+use native.Mathlib.Nat.{le-trans, le-of-lt, mul-le-mul, mul-le-mul-right, le-of-mul-le-mul-right, div-mul-le-self, lt-div-mul-add, div-le-of-le-mul, div-lt-iff-lt-mul, div-eq-of-lt, lt-of-lt-of-le, lt-of-le-of-lt, lt-of-mul-lt-mul-right, mul-assoc, mul-comm, mod-lt}
 use native.Mathlib.Omega.{arith}
 use lib.Dec.{T, ltb, leb, eqb, ltb→lt, leb→le, nleb→lt, lit<, lit≤}
 use lib.Pow.{pow-add, pow-pos, pow-mono}
@@ -14,14 +14,14 @@ use borrow.Author.Tests.{le-leb}
 use Rattle.functions.specs.declared.Sine.{Sine}
 use Rattle.functions.specs.declared.Sine.the-variants.{Value, Refused}
 use Rattle.num.specs.Floats.{sign}
-use Rattle.functions.specs.Fraction.{Fraction, Within, sumOf, kept, alternating, negated, valueOf}
-use Rattle.functions.specs.Reduction.{nearestOf, leftOf, belowOf, kOf, fTop, fBottom, fMinus}
-use Rattle.functions.specs.Words.{falling, upper, packed, Room}
-use Rattle.functions.specs.Sin.{quarter, sineWords, cosineWords, sineWord, cosineWord, waveWord, waveSide, smallSize, sinSmall, sinLarge, sinNear, sinOf, pick, numberOf, SinRange, sineTerms, cosineTerms, sineSum, cosineSum, quadrant, wave}
+use Rattle.functions.specs.Fraction.{Fraction, Within, FiniteWithin, sumOf, kept, alternating, negated}
+use Rattle.functions.specs.Reduction.{leftOf, belowOf, kOf, fTop, fBottom, fMinus}
+use Rattle.functions.specs.Words.{falling, upper, packed}
+use Rattle.functions.specs.Sin.{quarter, sineWords, cosineWords, sineWord, cosineWord, waveWord, waveSide, smallSize, sinSmall, sinLarge, sinNear, sinOf, pick, sineRefusal, numberOf, SinRange, sineTerms, cosineTerms, sineSum, cosineSum, quadrant, wave}
 use Rattle.functions.specs.laws.Product.{square-low, square-high, times-low, times-high}
 use Rattle.functions.specs.laws.Horner.{Near, falling-near}
 use Rattle.functions.specs.laws.Packed.{Cut, cut, room}
-use Rattle.functions.specs.laws.Closing.{Fixed, within, packed-within, within-negated, value-turned}
+use Rattle.functions.specs.laws.Closing.{Fixed, within, packed-within, within-negated, turned-within}
 use Rattle.functions.specs.laws.Fields.{quarter-below}
 use Rattle.functions.specs.laws.Reduced as reduced
 
@@ -59,10 +59,10 @@ module _ (F G f : ℕ) (l : f * G ≤ F * 2 ^ 64) (h : F * 2 ^ 64 ≤ (f + 1) * 
   under-one = le-of-mul-le-mul-right (le-trans h (subst (λ (n : ℕ). (f + 1) * G ≤ n) (mul-comm (2 ^ 64) G) (mul-le-mul-right G short))) (pow-pos 64)
 
   sine-near : Near (falling sineWords (upper f f)) (sumOf (kept true sineTerms) (F * F) (G * G)) (sumOf (kept false sineTerms) (F * F) (G * G)) (355687428096000 * (G * G) ^ 8) (2 ^ 62)
-  sine-near = falling-near 355687428096000 (f * f / 2 ^ 64) (F * F) (G * G) yl yh yb (le-trans square-most (lit≤ tt)) _ _ _ _ tt
+  sine-near = falling-near 355687428096000 (f * f / 2 ^ 64) (F * F) (G * G) yl yh yb (le-trans square-most (lit≤ tt)) _ _ _ _ tt tt
 
   cosine-near : Near (falling cosineWords (upper f f)) (sumOf (kept true cosineTerms) (F * F) (G * G)) (sumOf (kept false cosineTerms) (F * F) (G * G)) (20922789888000 * (G * G) ^ 8) (2 ^ 62)
-  cosine-near = falling-near 20922789888000 (f * f / 2 ^ 64) (F * F) (G * G) yl yh yb (le-trans square-most (lit≤ tt)) _ _ _ _ tt
+  cosine-near = falling-near 20922789888000 (f * f / 2 ^ 64) (F * F) (G * G) yl yh yb (le-trans square-most (lit≤ tt)) _ _ _ _ tt tt
 
   sine-fixed : Fixed 62 10 (sineWord f) (sineSum false F G)
   unfolding sineWord alternating
@@ -162,7 +162,7 @@ same-wave (suc (suc (suc (suc j)))) s u F G h = absurd (none j h)
 even-of : (k : ℕ) → k % 2 ≡ k % 4 % 2
 even-of k = omega arith
 
-large-close : (x : Float) → Within 40 (valueOf (sinLarge x)) (wave (quadrant x) (fMinus quarter x) (fTop quarter x) (fBottom x))
+large-close : (x : Float) → FiniteWithin 40 (sinLarge x) (wave (quadrant x) (fMinus quarter x) (fTop quarter x) (fBottom x))
 unfolding sinLarge waveWord waveSide
 large-close x =
     let d = den x in
@@ -177,7 +177,7 @@ large-close x =
     let pm = word-most (F / d) (f-word (num x) d dp) e in
     let r = ofBits binary64 (packed 1023 p) in
     let side = unlike (sign x) (unlike (leb 2 (K % 4)) (cond e u false)) in
-    subst (λ (a : Fraction). Within 40 a (wave (quadrant x) (fMinus quarter x) F G)) (sym (value-turned r side (wave-cut p pm .v * 2 ^ 1023) (2 ^ 1085) (wave-cut p pm .value)))
+    turned-within 40 r side (wave-cut p pm .v * 2 ^ 1023) (2 ^ 1085) (wave (quadrant x) (fMinus quarter x) F G) (wave-cut p pm .value)
     (subst (λ (a : Fraction). Within 40 (negated side (record { plus = num r; minus = 0; den = den r })) a)
     (ap (λ (i : ℕ). negated (unlike (sign x) (unlike (leb 2 (K % 4)) (cond (eqb i 0) u false))) (cond (eqb i 0) (sineSum false F G) (cosineSum F G))) (even-of K)
     ∙ same-wave (K % 4) (sign x) u F G (mod-lt K (lit< tt)))
@@ -344,33 +344,33 @@ wave-is s b k F G e f = ap (λ (i : ℕ). wave (cond s ((4 - i % 4) % 4) (i % 4)
     go true = refl
     go false = refl
 
-small-close : (x : Float) → 4 * num x < den x → Within 40 (valueOf (sinSmall x)) (wave (quadrant x) (fMinus quarter x) (fTop quarter x) (fBottom x))
+small-close : (x : Float) → T (finite x) → 4 * num x < den x → FiniteWithin 40 (sinSmall x) (wave (quadrant x) (fMinus quarter x) (fTop quarter x) (fBottom x))
 unfolding sinSmall
-small-close x h =
+small-close x f h =
     let n = num x in
     let d = den x in
     let dp = den-pos x in
     let X = sineSum false (fTop quarter x) (fBottom x) in
-    subst (λ (a : Fraction). Within 40 (valueOf (sinSmall x)) a) (sym (wave-is (sign x) (belowOf quarter n d) (kOf quarter x) (fTop quarter x) (fBottom x) (reduced.no-turns quarter n d (lit≤ tt) h) (reduced.no-side quarter n d (lit≤ tt) h)))
-    (subst (λ (y : Float). Within 40 (valueOf (cond (leb (size (n * 2 ^ 1074 / d)) 1010) x (cond (sign x) (neg y) y))) (negated (sign x) X)) (sym (small-is n d dp h))
+    subst (λ (a : Fraction). FiniteWithin 40 (sinSmall x) a) (sym (wave-is (sign x) (belowOf quarter n d) (kOf quarter x) (fTop quarter x) (fBottom x) (reduced.no-turns quarter n d (lit≤ tt) h) (reduced.no-side quarter n d (lit≤ tt) h)))
+    (subst (λ (y : Float). FiniteWithin 40 (cond (leb (size (n * 2 ^ 1074 / d)) 1010) x (cond (sign x) (neg y) y)) (negated (sign x) X)) (sym (small-is n d dp h))
     (go (leb (size (n * 2 ^ 1074 / d)) 1010) (leb→le (size (n * 2 ^ 1074 / d)) 1010) (nleb→lt (size (n * 2 ^ 1074 / d)) 1010)))
   where
     r : Float
     r = ofBits binary64 (packed (c (num x) (den x) (den-pos x) h - 51) (upper (g (num x) (den x) (den-pos x) h) (A (num x) (den x) (den-pos x) h)))
 
-    go : (b : Bool) → (T b → size (num x * 2 ^ 1074 / den x) ≤ 1010) → (T (not b) → 1010 < size (num x * 2 ^ 1074 / den x)) → Within 40 (valueOf (cond b x (cond (sign x) (neg r) r))) (negated (sign x) (sineSum false (fTop quarter x) (fBottom x)))
-    go true y k = within-negated (sign x) 40 (record { plus = num x; minus = 0; den = den x }) (sineSum false (fTop quarter x) (fBottom x)) (tiny-close (num x) (den x) (den-pos x) h (y tt))
+    go : (b : Bool) → (T b → size (num x * 2 ^ 1074 / den x) ≤ 1010) → (T (not b) → 1010 < size (num x * 2 ^ 1074 / den x)) → FiniteWithin 40 (cond b x (cond (sign x) (neg r) r)) (negated (sign x) (sineSum false (fTop quarter x) (fBottom x)))
+    go true y k = record { number = f; close = within-negated (sign x) 40 (record { plus = num x; minus = 0; den = den x }) (sineSum false (fTop quarter x) (fBottom x)) (tiny-close (num x) (den x) (den-pos x) h (y tt)) }
     go false y k =
         let C = small-cut (num x) (den x) (den-pos x) h (k tt) in
-        subst (λ (a : Fraction). Within 40 a (negated (sign x) (sineSum false (fTop quarter x) (fBottom x)))) (sym (value-turned r (sign x) (C .v * 2 ^ (c (num x) (den x) (den-pos x) h - 51)) (2 ^ 1085) (C .value)))
+        turned-within 40 r (sign x) (C .v * 2 ^ (c (num x) (den x) (den-pos x) h - 51)) (2 ^ 1085) (negated (sign x) (sineSum false (fTop quarter x) (fBottom x))) (C .value)
         (within-negated (sign x) 40 (record { plus = num r; minus = 0; den = den r }) (sineSum false (fTop quarter x) (fBottom x)) (small-within (num x) (den x) (den-pos x) h (k tt)))
 
-near-close : (x : Float) → Within 40 (valueOf (sinNear x)) (wave (quadrant x) (fMinus quarter x) (fTop quarter x) (fBottom x))
+near-close : (x : Float) → T (finite x) → FiniteWithin 40 (sinNear x) (wave (quadrant x) (fMinus quarter x) (fTop quarter x) (fBottom x))
 unfolding sinNear
-near-close x = go (ltb (4 * num x) (den x)) (ltb→lt (4 * num x) (den x))
+near-close x f = go (ltb (4 * num x) (den x)) (ltb→lt (4 * num x) (den x))
   where
-    go : (b : Bool) → (T b → 4 * num x < den x) → Within 40 (valueOf (cond b (sinSmall x) (sinLarge x))) (wave (quadrant x) (fMinus quarter x) (fTop quarter x) (fBottom x))
-    go true y = small-close x (y tt)
+    go : (b : Bool) → (T b → 4 * num x < den x) → FiniteWithin 40 (cond b (sinSmall x) (sinLarge x)) (wave (quadrant x) (fMinus quarter x) (fTop quarter x) (fBottom x))
+    go true y = small-close x f (y tt)
     go false y = large-close x
 
 taken : (x : Float) → T (finite x) → num x ≤ 2 ^ 20 * den x → sinOf x ≡ Value (sinNear x)
@@ -382,5 +382,5 @@ taken (fin s m e) f h = ap (λ (b : Bool). pick b (Value (sinNear (fin s m e))) 
 pub in-range : (x : Float) → SinRange x → sinOf x ≡ Value (sinNear x)
 in-range x r = taken x (r .number) (r .most)
 
-pub close : (x : Float) → SinRange x → Within 40 (valueOf (numberOf (sinOf x))) (wave (quadrant x) (fMinus quarter x) (fTop quarter x) (fBottom x))
-close x r = subst (λ (y : Sine). Within 40 (valueOf (numberOf y)) (wave (quadrant x) (fMinus quarter x) (fTop quarter x) (fBottom x))) (sym (in-range x r)) (near-close x)
+pub close : (x : Float) → SinRange x → (sineRefusal (sinOf x) ≡ 0) × FiniteWithin 40 (numberOf (sinOf x)) (wave (quadrant x) (fMinus quarter x) (fTop quarter x) (fBottom x))
+close x r = subst (λ (y : Sine). (sineRefusal y ≡ 0) × FiniteWithin 40 (numberOf y) (wave (quadrant x) (fMinus quarter x) (fTop quarter x) (fBottom x))) (sym (in-range x r)) (refl, near-close x (r .number))

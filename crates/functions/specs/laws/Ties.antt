@@ -1,16 +1,19 @@
--- No float lies in the middle of two multiples of L or of Q: their odd parts have 62 digits, and a float has 53. Assumes nothing.
+-- No float lies in the middle of two multiples of L or of Q: their odd parts have 62 digits, and a float has 53. So k is nearest, and no other number is. Assumes nothing.
 use mathlib.Core.Path.{_≡_, sym, ap, _∙_, subst}
 use mathlib.Core.Bool.{Bool, true, false, not}
 use Prim.Native.Nat.{ℕ, zero, suc, _+_, _-_, _*_, _/_, _%_, _^_, _≤_, _<_}
-use native.Mathlib.Nat.{le-trans, lt-of-lt-of-le, not-le-of-lt, mul-le-mul-left, mul-le-mul-right, eq-of-mul-eq-mul-right, mul-assoc, mul-comm, mul-one, sub-add-cancel, le-of-lt, mod-lt, le-of-eq}
+use native.Mathlib.Nat.{le-trans, le-antisymm, lt-of-lt-of-le, lt-of-not-le, not-le-of-lt, mul-pos, mul-le-mul-left, mul-le-mul-right, eq-of-mul-eq-mul-right, mul-assoc, mul-one, sub-add-cancel, mod-lt, le-of-eq}
 use native.Mathlib.Omega.{arith}
-use lib.Dec.{T, leb, leb→le, nleb→lt, lit<, lit≤}
+use lib.Dec.{T, leb, leb→le, nleb→lt, lit<}
 use lib.Pow.{pow-add, pow-pos}
 use lib.Ieee.{Float, binary64, fits, toBits}
 use lib.Ieee.Scale.{finite}
 use lib.Ieee.Positive.{num, den, den-pos}
+use Rattle.functions.specs.Fraction.{apart}
+use Rattle.functions.specs.Reduction.{leftOf, kOf, Nearest}
 use Rattle.functions.specs.Words.{sizeOf}
 use Rattle.functions.specs.laws.Fields.{with-field, at-fields}
+use Rattle.functions.specs.laws.Reduced.{left-small}
 
 -- an odd number times a power of two is no smaller number times another
 odd-part : (q u P v : ℕ) → q * 2 ^ u ≡ P * 2 ^ v → P % 2 ≡ 1 → P ≤ q
@@ -95,3 +98,45 @@ never x F f o i odd big j e =
           where
             last : (n a : ℕ) → a % 2 ≡ 1 → (2 * n + a) % 2 ≡ 1
             last n a p = omega arith
+
+-- at most half of e from k e, and at half of it for no multiple: less than half
+inside : (N e k : ℕ) → 2 * apart N (k * e) ≤ e → ((j : ℕ) → 2 * N ≡ (2 * j + 1) * e → ⊥) → 2 * apart N (k * e) < e
+inside N e k h none = lt-of-not-le (λ (g : e ≤ 2 * apart N (k * e)). go k (leb (k * e) N) (leb→le (k * e) N) (nleb→lt (k * e) N) h g)
+  where
+    over : (j : ℕ) → j * e ≤ N → 2 * apart N (j * e) ≤ e → e ≤ 2 * apart N (j * e) → 2 * N ≡ (2 * j + 1) * e
+    over j p q r = omega arith
+
+    under : (j : ℕ) → N < suc j * e → 2 * apart N (suc j * e) ≤ e → e ≤ 2 * apart N (suc j * e) → 2 * N ≡ (2 * j + 1) * e
+    under j p q r = omega arith
+
+    first : N < 0 * e → ⊥
+    first p = omega arith
+
+    go : (j : ℕ) (t : Bool) → (T t → j * e ≤ N) → (T (not t) → N < j * e) → 2 * apart N (j * e) ≤ e → e ≤ 2 * apart N (j * e) → ⊥
+    go j true y n p q = none j (over j (y tt) p q)
+    go zero false y n p q = first (n tt)
+    go (suc j) false y n p q = none j (under j (n tt) p q)
+
+-- less than half of e from k e, so from no other multiple at most half
+alone : (N e k j : ℕ) → 2 * apart N (k * e) < e → 2 * apart N (j * e) ≤ e → j ≡ k
+alone N e k j h g = le-antisymm (up-to j k (lt-of-not-le (λ (p : suc k ≤ j). above (mul-le-mul-right e p)))) (up-to k j (lt-of-not-le (λ (p : suc j ≤ k). below (mul-le-mul-right e p))))
+  where
+    up-to : (a b : ℕ) → a < suc b → a ≤ b
+    up-to a b p = omega arith
+
+    above : suc k * e ≤ j * e → ⊥
+    above p = omega arith
+
+    below : suc j * e ≤ k * e → ⊥
+    below p = omega arith
+
+-- so k is nearest to x over such a modulus, and no other number is
+pub nearest-only : (x : Float) → T (fits binary64 x) → T (finite x) → (o i : ℕ) → o % 2 ≡ 1 → 2 ^ 53 ≤ o → Nearest (o * 2 ^ i) x (kOf (o * 2 ^ i) x)
+unfolding leftOf
+nearest-only x F f o i odd big =
+    let M = o * 2 ^ i in
+    let N = num x * 2 ^ 64 in
+    let e = M * den x in
+    let ep : 0 < e = mul-pos (mul-pos (lt-of-lt-of-le (lit< {m = 0} {n = 2 ^ 53} tt) big) (pow-pos i)) (den-pos x) in
+    let h : 2 * apart N (kOf M x * e) < e = inside N e (kOf M x) (left-small M (num x) (den x) ep (den-pos x)) (never x F f o i odd big) in
+    record { half = h; only = λ (j : ℕ) (g : 2 * apart N (j * e) ≤ e). alone N e (kOf M x) j h g }
