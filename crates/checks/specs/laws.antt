@@ -1,2 +1,3 @@
 -- What is proved of the refusals.
 pub mod Checks
+pub mod Table

@@ -4,4 +4,5 @@ pub mod Row
 pub mod Kind
 pub mod Inside
 pub mod Clean
+pub mod Right
 pub mod Cases

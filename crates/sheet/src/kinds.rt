@@ -131,7 +131,8 @@ pub fn vccs(bytes: &[u8]) -> Element
     }
 }
 
-fn node_at(bytes: &[u8], at: usize) -> NodeId
+// The node whose number stands at `at`.
+pub fn node_at(bytes: &[u8], at: usize) -> NodeId
     ensures { λ r. ⌜ r ≡ nodeAt (now (bytes .entry)) at ⌝ }
 {
     NodeId(num::u16_at(bytes, at))

@@ -6,7 +6,7 @@ mod record;
 
 ghost use mathlib.Core.Path.{_≡_};
 ghost use lib.ListN.{length};
-ghost use Rattle.sheet.specs.Record.{recordAt, kindAt, decodeOf, decodeAs};
+ghost use Rattle.sheet.specs.Record.{recordAt, kindAt, diodeOf, decodeOf, decodeAs};
 ghost use Rattle.sheet.specs.Row.{rowOf};
 ghost use Rattle.sheet.specs.Check.{checkOf, recordsOf, recordRefusal, numberOf, placeOf, badSheet, badPoints};
 
@@ -159,6 +159,20 @@ pub fn element_as(sheet: &[u8], i: usize, kind: u8) -> Decoded
     ensures { λ r. ⌜ r ≡ decodeAs kind (recordAt (now (sheet .entry)) i) ⌝ }
 {
     decode_as(kind, record_at(sheet, i))
+}
+
+// Record i read as a diode, for a caller that has found that it is one: its unused bytes are not asked about again.
+// It does not call `kinds::diode`: with one caller each, both are compiled into their callers, and a pass has no call more for its element.
+pub fn diode_at(sheet: &[u8], i: usize) -> Element
+    ensures { λ r. ⌜ r ≡ diodeOf (recordAt (now (sheet .entry)) i) ⌝ }
+{
+    let bytes = record_at(sheet, i);
+    Element::D {
+        p: kinds::node_at(bytes, 2),
+        n: kinds::node_at(bytes, 4),
+        i_sat: num::f64_at(bytes, 16),
+        tdegc: num::f64_at(bytes, 24),
+    }
 }
 
 // The kind byte of record i, which tells a pass whether it has to decode the record; past the sheet's end it is 0.

@@ -1,6 +1,6 @@
 -- What holds where nothing is refused, and the test of the order in parts that do not wrap. Assumes nothing.
 -- Clients cite order-small, Fine, fine, clean-fine, and-none and cond-none.
-use Prim.Native.Nat.{ℕ, suc, _+_, _*_, _-_, _≤_, _<_}
+use Prim.Native.Nat.{ℕ, suc, _+_, _*_, _-_, _/_, _≤_, _<_}
 use mathlib.Core.Path.{_≡_, refl, ap}
 use mathlib.Core.Bool.{Bool, true, false, cond, _||_, _&&_, or-true}
 use mathlib.Mathlib.Data.Bool.Basic.{or-eq-false-eq-eq-false-and-eq-false as neither}
@@ -8,13 +8,13 @@ use mathlib.Core.List.{List}
 use lib.Dec.{eqb, ltb}
 use borrow.Author.Tests.{eqb-true, eqb-false, ltb-true, ltb-false, lt-ltb}
 use native.Mathlib.Omega.{arith}
-use Rattle.numbers.specs.Limits.{mostUnknowns, mostRecords, mostBudget}
+use Rattle.numbers.specs.Limits.{mostUnknowns, mostRecords, mostPoints, mostPasses, mostBudget}
 use Rattle.options.specs.declared.Options.{Options}
 use Rattle.sheet.specs.declared.Checked.{Checked}
 use Rattle.sheet.specs.declared.Checked.the-variants.{Clean, Faulty}
 use Rattle.sheet.specs.Record.{recordBytes}
-use Rattle.sheet.specs.Check.{badSheet, badPoints, checkOf}
-use Rattle.sheet.specs.laws.Clean.{whole-sheet}
+use Rattle.sheet.specs.Check.{pointBytes, badSheet, badPoints, checkOf}
+use Rattle.sheet.specs.laws.Clean.{whole-sheet, whole-points}
 use Rattle.checks.specs.declared.Sizes.{Sizes}
 use Rattle.checks.specs.Checks.{order, cells, records, badOrder, highLimit, badCounts, shortMatrix, shortVector, badRoom, sizesRefusal, limitsOf, checkedOf}
 
@@ -45,12 +45,19 @@ module _ (nodes sources : ℕ) where
       same true false p q = absurd (omega (arith, ltb-true mostUnknowns (nodes + sources) p, ltb-false (mostUnknowns - nodes) sources q))
       same false true p q = absurd (omega (arith, ltb-false mostUnknowns (nodes + sources) p, ltb-true (mostUnknowns - nodes) sources q))
 
--- what holds where nothing of 1 to 5 is refused
+-- none of the conditions 1 to 5 holds: there is a node and N is at most 48; the sheet is whole records, at most 256; the points are whole, at most 1,024; ITL1, ITL3 and ITL4 are at most 10,000 and the
+-- budget is 1 to 1,000,000; and every lent buffer has its room
 pub record Fine (o : Options) (z : Sizes) : Type 0 where
   pub some : 0 < z .nodes
   pub small : order z ≤ mostUnknowns
   pub whole : recordBytes * records z ≡ z .sheet
   pub few : records z ≤ mostRecords
+  pub «whole-points» : pointBytes * (z .points / pointBytes) ≡ z .points
+  pub «few-points» : z .points / pointBytes ≤ mostPoints
+  pub «low-itl1» : o .itl1 ≤ mostPasses
+  pub «low-itl3» : o .itl3 ≤ mostPasses
+  pub «low-itl4» : o .itl4 ≤ mostPasses
+  pub paid : 0 < o .budget
   pub spent : o .budget ≤ mostBudget
   pub «base-room» : cells z ≤ z .base
   pub «system-room» : cells z ≤ z .system
@@ -74,7 +81,11 @@ fine o z e =
     let r5 = cond-none (badRoom z) 4 _ (r4 .1) in
     let o1 = neither (eqb (z .nodes) 0) (ltb mostUnknowns (order z)) .0 (r1 .0) in
     let o2 = whole-sheet (z .sheet) (r2 .0) in
+    let o3 = whole-points (z .points) (r3 .0) in
     let o4 = neither (highLimit o || eqb (o .budget) 0) (ltb mostBudget (o .budget)) .0 (r4 .0) in
+    let low = neither (highLimit o) (eqb (o .budget) 0) .0 (o4 .0) in
+    let most = neither (ltb mostPasses (o .itl1) || ltb mostPasses (o .itl3)) (ltb mostPasses (o .itl4)) .0 (low .0) in
+    let two = neither (ltb mostPasses (o .itl1)) (ltb mostPasses (o .itl3)) .0 (most .0) in
     let t = neither (shortMatrix z || shortVector z) (z .transient && ltb (z .rows) (order z + 1)) .0 (r5 .0) in
     let mv = neither (shortMatrix z) (shortVector z) .0 (t .0) in
     let m = neither (ltb (z .base) (cells z) || ltb (z .system) (cells z)) (ltb (z .elimination) (cells z)) .0 (mv .0) in
@@ -85,6 +96,12 @@ fine o z e =
       small = ltb-false _ _ (o1 .1);
       whole = o2 .0;
       few = o2 .1;
+      «whole-points» = o3 .0;
+      «few-points» = o3 .1;
+      «low-itl1» = ltb-false _ _ (two .0);
+      «low-itl3» = ltb-false _ _ (two .1);
+      «low-itl4» = ltb-false _ _ (most .1);
+      paid = omega (arith, eqb-false (o .budget) 0 (low .1));
       spent = ltb-false _ _ (o4 .1);
       «base-room» = ltb-false _ _ (bs .0);
       «system-room» = ltb-false _ _ (bs .1);

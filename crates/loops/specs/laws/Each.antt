@@ -2,13 +2,13 @@
 use mathlib.Core.Path.{_≡_, refl, sym, ap, _∙_}
 use mathlib.Core.Logic.{⊎-elim}
 use mathlib.Core.List.{List, [], _∷_, _++_, append-assoc}
-use Prim.Native.Nat.{ℕ, zero, suc, _+_, _*_, _-_, _<_, _≤_}
+use Prim.Native.Nat.{ℕ, zero, suc, _+_, _*_, _<_, _≤_}
 use native.Mathlib.Nat.{suc-mul, mul-le-mul-right}
 use native.Mathlib.Numerals.{add-one}
 use native.Mathlib.Omega.{arith}
 use lib.ListN.{length, getD, take, drop, set, length-append, List·getD-append}
-use lib.Seq.{drop-cons, drop-drop, take-at, drop-at, getD-at, set-at, append-snoc, getD-append-add}
-use Rattle.loops.specs.laws.Loop.{le-or-lt}
+use lib.Seq.{drop-drop, take-at, drop-at, getD-at, getD-append-add}
+use Rattle.loops.specs.laws.Loop.{le-or-lt, store-next}
 use Rattle.loops.specs.Each.{each, joined}
 
 -- place j of so many, each w wide
@@ -22,10 +22,7 @@ module _ {A : Type 0} (f : ℕ → A) where
 
   -- one store more
   pub each-more : (i : ℕ) (d : List A) → i < length d → set (each f i ++ drop i d) i (f i) ≡ each f (i + 1) ++ drop (i + 1) d
-  each-more i d h =
-      rw add-one
-      (ap (λ (r : List A). set (each f i ++ r) i (f i)) (drop-cons d i (f i) h)
-      ∙ (set-at (each f i) _ (drop (suc i) d) (f i) i (each-length i) ∙ sym (append-snoc (each f i) (f i) (drop (suc i) d))))
+  each-more i d h = rw add-one (rw add-one at (store-next (each f i) d i (f i) (each-length i) h))
 
   -- what stands at j
   pub each-at : (n j : ℕ) (r : List A) (z : A) → j < n → getD (each f n ++ r) j z ≡ f j

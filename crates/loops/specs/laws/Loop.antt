@@ -10,7 +10,7 @@ use native.Mathlib.Omega.{arith}
 use borrow.Author.Tests.{le-leb, lt-leb, leb-true, leb-false}
 use lib.Dec.{leb}
 use lib.ListN.{length, getD, set, take, drop, replicate, length-append, length-take, length-drop, length-replicate, drop-of-length-le}
-use lib.Seq.{take-all, drop-length, length-take-le, getD-append-add, getD-drop}
+use lib.Seq.{take-all, drop-length, drop-cons, append-snoc, length-take-le, getD-append-add, getD-drop, set-at}
 use lib.Ieee.{Float}
 use Rattle.loops.specs.Loop.{turns, down, front, copied, rowAt, rowPut}
 
@@ -111,6 +111,12 @@ module _ {A : Type 0} (z : A) where
   -- one store more
   pub front-more : (s d : List A) (i : ℕ) → i < length s → i < length d → set (front i s d) i (getD s i z) ≡ front (i + 1) s d
   front-more s d i l m = rw add-one (front-suc s d i l m)
+
+-- ---- a list d whose front is a list that grows: one store more, behind it
+
+pub store-next : {A : Type 0} (l d : List A) (i : ℕ) (v : A) → length l ≡ i → i < length d → set (l ++ drop i d) i v ≡ (l ++ (v ∷ [])) ++ drop (i + 1) d
+store-next {A} l d i v e h =
+    rw add-one (ap (λ (r : List A). set (l ++ r) i v) (drop-cons d i v h) ∙ (set-at l _ (drop (suc i) d) v i e ∙ sym (append-snoc l v (drop (suc i) d))))
 
 -- ---- a list that is filled with one value v
 
