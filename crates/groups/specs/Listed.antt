@@ -1,11 +1,11 @@
 -- The places of the diodes, listed once for all passes: to go through the list, and to read each listed record as a diode's, comes to the same as to go through all records and to decode them.
--- A place is a byte, so the first 256 records can be listed. Clients cite placesOf, diodePlaces, Listed and listedOf.
-use Prim.Native.Nat.{ℕ, _+_, _-_, min}
+-- A place is a byte, so the first 256 records can be listed. Clients cite diodesAmong, placesOf, diodePlaces, Listed and listedOf.
+use Prim.Native.Nat.{ℕ, zero, suc, _+_, _-_, min}
 use mathlib.Core.Path.{_≡_}
 use mathlib.Core.Bool.{Bool, true, false, cond}
-use mathlib.Core.List.{List}
+use mathlib.Core.List.{List, [], _∷_, _++_}
 use lib.Dec.{eqb}
-use lib.ListN.{length, getD, set}
+use lib.ListN.{length, getD, drop}
 use lib.Ieee.{Float}
 use Rattle.numbers.specs.Kinds.{diode}
 use Rattle.numbers.specs.Limits.{mostRecords}
@@ -27,7 +27,12 @@ goodOf (Refused k) = false
 unfoldable pub diodeIn : List ℕ → ℕ → Bool
 diodeIn sheet i = goodOf (recordIn diode diode sheet i)
 
--- how many places stand at the front of a list, and the list
+-- the places of the diodes among the first k records, in rising order
+unfoldable pub diodesAmong : List ℕ → ℕ → List ℕ
+diodesAmong sheet zero = []
+diodesAmong sheet (suc k) = diodesAmong sheet k ++ cond (diodeIn sheet k) (k ∷ []) []
+
+-- how many numbers stand at the front of a list, and the list
 pub record Places : Type 0 where
   pub count : ℕ
   pub list : List ℕ
@@ -35,13 +40,13 @@ pub record Places : Type 0 where
 abbrev pub placesOf : ℕ → List ℕ → Places
 placesOf count list = record { count = count; list = list }
 
--- record i, which a diode joins to those before it
-abbrev pub joinedAt : List ℕ → ℕ → Places → Places
-joinedAt sheet i p = cond (diodeIn sheet i) (placesOf (p .count + 1) (set (p .list) (p .count) i)) p
+-- what was found at the front of a list, and behind it the rest as it was
+abbrev pub fronted : List ℕ → List ℕ → Places
+fronted found list = placesOf (length found) (found ++ drop (length found) list)
 
--- the places of the diodes, in rising order, written over a list from its front on: among the first 256 records, or among as many as the list has numbers if that is fewer
+-- the places of the diodes at a list's front: among the first 256 records, or among as many as the list has numbers if that is fewer
 unfoldable pub diodePlaces : List ℕ → List ℕ → Places
-diodePlaces sheet list = turns (min (min (recordsOf sheet) mostRecords) (length list)) (joinedAt sheet) (placesOf 0 list)
+diodePlaces sheet list = fronted (diodesAmong sheet (min (min (recordsOf sheet) mostRecords) (length list))) list
 
 -- record i read as a diode, whatever it is; after a verdict nothing more is stamped
 unfoldable pub asDiode : Options → List ℕ → ℕ → List Float → ℕ → Stamped → Stamped

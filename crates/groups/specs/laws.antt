@@ -3,3 +3,5 @@ pub mod Passing
 pub mod Quiet
 pub mod Listed
 pub mod Stamping
+pub mod SineAtZero
+pub mod Numbers

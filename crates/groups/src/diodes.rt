@@ -8,17 +8,18 @@ use numbers::limit;
 use numbers::verdict;
 use options::Options;
 use sheet::Decoded;
+use sheet::Element;
 ghost use mathlib.Core.Path.{_≡_};
 ghost use Prim.Native.Nat.{_-_, min};
 ghost use lib.ListN.{length, set};
 ghost use Rattle.numbers.specs.Limits.{mostRecords};
 ghost use Rattle.loops.specs.Loop.{turns};
-ghost use Rattle.sheet.specs.Record.{diodeOf};
 ghost use Rattle.sheet.specs.Check.{recordsOf};
 ghost use Rattle.groups.specs.Diodes.{stampedOf, companion, biased, biasedAt};
 ghost use Rattle.groups.specs.Listed.{diodeIn, placesOf, diodePlaces, asDiode, listedAt, restAt, listedOf};
 
-// Writes the places of the diodes at the front of `places`, in rising order, and answers how many they are. It walks the first 256 records, or as many as `places` has bytes if that is fewer.
+// Writes the places of the diodes at the front of `places`, in rising order, leaves the bytes after them as they were, and answers how many they are.
+// It walks the first 256 records, or as many as `places` has bytes if that is fewer.
 pub fn list_diodes(sheet: &[u8], places: &mut [u8]) -> usize
     ensures { λ r. ⌜ placesOf r (now (places .exit)) ≡ diodePlaces (now (sheet .entry)) (now (places .entry)) ⌝ }
 {
@@ -152,12 +153,12 @@ fn as_diode(
     if code != 0 {
         return code;
     }
-    diode_one(sheet::record_at(sheet, i), o, n, x, i, memory, m)
+    diode_one(sheet::diode_at(sheet, i), o, n, x, i, memory, m)
 }
 
-// What a record's bytes write, read as a diode's: no element is made of them.
+// What an element writes as the diode of record i.
 fn diode_one(
-    bytes: &[u8],
+    e: Element,
     o: Options,
     n: usize,
     x: &[f64],
@@ -165,19 +166,27 @@ fn diode_one(
     memory: &mut [f64],
     m: &mut [f64],
 ) -> u8
-    ensures { λ r. ⌜ stampedOf r (now (m .exit)) (now (memory .exit)) ≡ biased o n (now (x .entry)) i (now (m .entry)) (now (memory .entry)) (diodeOf (now (bytes .entry))) ⌝ }
+    ensures { λ r. ⌜ stampedOf r (now (m .exit)) (now (memory .exit)) ≡ biased o n (now (x .entry)) i (now (m .entry)) (now (memory .entry)) e ⌝ }
 {
-    let a = num::u16_at(bytes, 2) as usize;
-    let b = num::u16_at(bytes, 4) as usize;
-    let v_thermal = models::diode::thermal_voltage(o, num::f64_at(bytes, 24));
+    let Element::D {
+        p,
+        n: q,
+        i_sat,
+        tdegc,
+    } = e
+    else {
+        return 0;
+    };
+    let from = p.0 as usize;
+    let to = q.0 as usize;
     let l = models::diode::linearize_at(
         o.gmin,
-        num::f64_at(bytes, 16),
-        v_thermal,
-        across(x, a, b),
+        i_sat,
+        models::diode::thermal_voltage(o, tdegc),
+        across(x, from, to),
         number_at(memory, i),
     );
-    stamp_model(l, n, i, a, b, memory, m)
+    stamp_model(l, n, i, from, to, memory, m)
 }
 
 // A diode's model and its new memory.

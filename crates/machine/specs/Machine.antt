@@ -6,7 +6,7 @@ use mathlib.Core.List.{List, [], _∷_}
 use lib.Dec.{eqb, ltb}
 use lib.ListN.{length}
 use lib.Ieee.{Float}
-use Rattle.loops.specs.Loop.{zerosLike, rowAt}
+use Rattle.loops.specs.Loop.{copied, zerosLike, rowAt}
 use Rattle.options.specs.declared.Options.{Options}
 use Rattle.convergence.specs.Convergence.{convergenceOf}
 use Rattle.steps.specs.declared.Counters.{Counters}
@@ -74,6 +74,10 @@ accepts No = false
 accepts Error = false
 accepts Diode = false
 accepts Sine = false
+
+-- the accepted vector a after a pass that leaves v: a step that is accepted puts v in its place, and DC accepts none
+unfoldable pub acceptedBy : Report → Counters → List Float → List Float → List Float
+acceptedBy r c a v = cond (eqb (c .phase) dcPhase) a (cond (accepts r) (copied v a) a)
 
 -- transient: where a step is accepted, its vector is kept, and the new time may get a row
 unfoldable pub stepPass : Attempt → Job → State → State

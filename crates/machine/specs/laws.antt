@@ -4,3 +4,4 @@ pub mod Kept
 pub mod OneVerdict
 pub mod Units
 pub mod Rows
+pub mod NoSine

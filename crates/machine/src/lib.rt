@@ -1,12 +1,14 @@
-// The run as a machine of passes: its definition and its laws are in specs/. The code here writes the rows; stamping, solving and the passes are in `passes`.
+// The run as a machine of passes: its definition and its laws are in specs/. The code here writes the rows and takes the accepted vector; stamping, solving and the passes are in `passes`.
 // Every function here is total.
 ghost use mathlib.Core.Path.{_≡_};
 ghost use Rattle.machine.specs.State.{writtenOf};
-ghost use Rattle.machine.specs.Machine.{writtenBy, landed as landedOf, accepts as acceptsOf};
+ghost use Rattle.machine.specs.Machine.{writtenBy, landed as landedOf, accepts as acceptsOf, acceptedBy};
+use loops::copy;
 use loops::put_row;
 use numbers::verdict::NO_ROOM;
 use options::Options;
 use steps::Counters;
+use steps::DC;
 use steps::Report;
 use steps::ended;
 use steps::row_due;
@@ -46,4 +48,14 @@ pub fn accepts(r: Report) -> bool
         Report::Diode => false,
         Report::Sine => false,
     }
+}
+
+// The vector of an accepted step becomes the accepted one. DC accepts none, so that storage elements start from zeros.
+pub fn accept(report: Report, c: Counters, accepted: &mut [f64], vector: &[f64])
+    ensures { λ _. ⌜ now (accepted .exit) ≡ acceptedBy report c (now (accepted .entry)) (now (vector .entry)) ⌝ }
+{
+    if (c.phase == DC) | !accepts(report) {
+        return;
+    }
+    copy(vector, accepted);
 }

@@ -1,4 +1,4 @@
--- The diode: "Limiting follows `linearize`". Clients cite linearized, verdictOf and memoryOf.
+-- The diode: "Limiting follows `linearize`". Clients cite linearized, Numbers and numbersOf.
 use Prim.Native.Nat.{ℕ}
 use mathlib.Core.Bool.{cond}
 use lib.Ieee.{Float, binary64, ofBits, lt, le}
@@ -60,12 +60,14 @@ linearized o isat tdegc v last =
     let vt = thermal o tdegc in
     modelAt (o .gmin) isat vt (limited vt (critical vt isat) v last)
 
--- the verdict's number: "22 diode current not finite (the Rust panics)"
-unfoldable pub verdictOf : Linear → ℕ
-verdictOf (Model g i v) = settled
-verdictOf NotFinite = diodeCurrent
+-- the numbers of an answer: the verdict, the model's conductance and current, and the diode's memory afterwards
+pub record Numbers : Type 0 where
+  pub verdict : ℕ
+  pub g : Float
+  pub i : Float
+  pub memory : Float
 
--- the diode's memory afterwards: the limited voltage. A diode that fails keeps its last one, since the Rust panics before it stores.
-unfoldable pub memoryOf : Float → Linear → Float
-memoryOf last (Model g i v) = v
-memoryOf last NotFinite = last
+-- "22 diode current not finite (the Rust panics)": there is no model then, and the diode keeps its last voltage, since the Rust panics before it stores
+abbrev pub numbersOf : Float → Linear → Numbers
+numbersOf last (Model g i v) = record { verdict = settled; g = g; i = i; memory = v }
+numbersOf last NotFinite = record { verdict = diodeCurrent; g = nought; i = nought; memory = last }

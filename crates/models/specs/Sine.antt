@@ -1,7 +1,8 @@
--- The sinusoidal sources. Clients cite sineAt, verdictOf and valueOf.
+-- The sinusoidal sources. Clients cite sineAt, Numbers and numbersOf.
 use Prim.Native.Nat.{ℕ}
-use lib.Ieee.{Float, nan, binary64, ofBits}
+use lib.Ieee.{Float, binary64, ofBits}
 use Rattle.numbers.specs.Verdicts.{settled, sineRefused}
+use Rattle.num.specs.Floats.{nought}
 use Rattle.functions.specs.declared.Sine.{Sine}
 use Rattle.functions.specs.declared.Sine.the-variants.{Value as Is, Refused as No}
 use Rattle.functions.specs.Sin.{sinOf}
@@ -22,12 +23,12 @@ levelOf vo va No = Refused
 unfoldable pub sineAt : Float → Float → Float → Float → Level
 sineAt vo va freq t = levelOf vo va (sinOf (two ⊗ PI ⊗ freq ⊗ t))
 
--- the verdict's number: "26 sine refused by 12"
-unfoldable pub verdictOf : Level → ℕ
-verdictOf (Value x) = settled
-verdictOf Refused = sineRefused
+-- the numbers of an answer: the verdict, and the level, 0.0 if refused
+pub record Numbers : Type 0 where
+  pub verdict : ℕ
+  pub value : Float
 
--- the level's value, a NaN where it has none
-unfoldable pub valueOf : Level → Float
-valueOf (Value x) = x
-valueOf Refused = nan
+-- "26 sine refused by 12"
+abbrev pub numbersOf : Level → Numbers
+numbersOf (Value x) = record { verdict = settled; value = x }
+numbersOf Refused = record { verdict = sineRefused; value = nought }

@@ -1,2 +1,4 @@
--- What is computed from the definitions.
+-- What holds of the definitions, and cases worked out.
+pub mod Numbers
 pub mod Cases
+pub mod SineAtZero

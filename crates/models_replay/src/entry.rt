@@ -73,7 +73,7 @@ fn capacitor_right(e: &[u8]) -> bool {
     false
 }
 
-// gmin, boltzmann, charge, i_sat, tdegc, v_hat, v_d_prev; the verdict, g, i, memory.
+// gmin, boltzmann, charge, i_sat, tdegc, v_hat, v_d_prev; the verdict, g, i, memory. With 22 there is no model, and the memory is v_d_prev.
 fn diode_right(e: &[u8]) -> bool {
     let o = options_of(f64_at(e, 0), f64_at(e, 8), f64_at(e, 16));
     let verdict = u64_at(e, 56);
@@ -91,7 +91,12 @@ fn diode_right(e: &[u8]) -> bool {
             }
             false
         }
-        Linear::NotFinite => verdict == DIODE_CURRENT as u64,
+        Linear::NotFinite => {
+            if verdict == DIODE_CURRENT as u64 {
+                return all_same(e, 0.0, 0.0, f64_at(e, 48));
+            }
+            false
+        }
     }
 }
 
@@ -105,7 +110,7 @@ fn all_same(e: &[u8], g: f64, i: f64, memory: f64) -> bool {
     false
 }
 
-// vo, va, freq, t; the verdict, the level.
+// vo, va, freq, t; the verdict, the level, with 26 none.
 fn sine_right(e: &[u8]) -> bool {
     let verdict = u64_at(e, 32);
     let l = models::sine::evaluate(f64_at(e, 0), f64_at(e, 8), f64_at(e, 16), f64_at(e, 24));
@@ -116,7 +121,12 @@ fn sine_right(e: &[u8]) -> bool {
             }
             false
         }
-        Level::Refused => verdict == SINE_REFUSED as u64,
+        Level::Refused => {
+            if verdict == SINE_REFUSED as u64 {
+                return same(0.0, f64_at(e, 40));
+            }
+            false
+        }
     }
 }
 

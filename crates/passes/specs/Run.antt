@@ -1,6 +1,7 @@
--- The run of a budget over lent buffers, at the real stamping and solving. Clients cite runOn.
+-- The run of a budget over lent buffers, at the real stamping and solving. Clients cite runOn and Scratch.
 use Prim.Native.Nat.{ℕ}
-use mathlib.Core.Bool.{Bool, cond}
+use mathlib.Core.Path.{_≡_}
+use mathlib.Core.Bool.{Bool, false, cond}
 use mathlib.Core.List.{List}
 use lib.ListN.{length}
 use lib.Ieee.{Float}
@@ -20,6 +21,10 @@ runOn elimination k s =
     cond (fits (k .order) (length (s .accepted)) (length (s .buffers .base)) elimination (length (s .buffers .system)))
     (runFor (attemptOf k) (k .job) (k .job .options .budget) s)
     s
+
+-- the elimination matrix, before and after a run, is scratch; but where the lengths do not fit, nothing happens to it either
+pub record Scratch (k : Circuit) (s : State) (old new : List Float) : Type 0 where
+  pub kept : fits (k .order) (length (s .accepted)) (length (s .buffers .base)) (length old) (length (s .buffers .system)) ≡ false → new ≡ old
 
 -- the solved vector, and the report on it
 pub record Renewed : Type 0 where

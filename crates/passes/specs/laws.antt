@@ -1,3 +1,4 @@
 -- What is proved of the lengths that fit, and of the attempt.
 pub mod Sized
 pub mod Attempt
+pub mod NoSine

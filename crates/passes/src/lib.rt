@@ -3,20 +3,19 @@
 mod attempt;
 
 ghost use mathlib.Core.Path.{_≡_};
-ghost use mathlib.Core.Bool.{cond};
 ghost use Rattle.numbers.specs.Limits.{mostRecords};
 ghost use lib.ListN.{length};
 ghost use Rattle.groups.specs.Listed.{Listed};
 ghost use Rattle.machine.specs.State.{buffersOf, stateOf, writtenOf};
-ghost use Rattle.machine.specs.Machine.{accepts as acceptsOf, runFor};
+ghost use Rattle.machine.specs.Machine.{runFor};
 ghost use Rattle.passes.specs.Sized.{Sized, fits as fitsOf};
 ghost use Rattle.passes.specs.Attempt.{circuitOf, attemptOf};
 ghost use Rattle.passes.specs.Again.{alike as alikeOf, Holder};
 ghost use Rattle.passes.specs.Done.{dcDone, stepDone, aftermathOf, aftermath};
-ghost use Rattle.passes.specs.Run.{runOn};
+ghost use Rattle.passes.specs.Run.{runOn, Scratch};
 use attempt::attempt;
 use groups::diodes::list_diodes;
-use loops::copy;
+use machine::accept;
 use machine::accepts;
 use machine::landed;
 use machine::write;
@@ -52,10 +51,15 @@ pub fn run(
     memory: &mut [f64],
     rows: &mut [f64],
 ) -> Counters
-    ensures { λ r. ⌜
+    ensures runs { λ r. ⌜
         stateOf r (now (accepted .exit)) (buffersOf (now (base .entry)) (now (system .exit)) (now (vector .exit)) (now (memory .exit)) (now (rows .exit)))
         ≡ runOn (length (now (elimination .entry))) (circuitOf j (length (now (vector .entry))) (now (sheet .entry)) (now (points .entry)))
         (stateOf c (now (accepted .entry)) (buffersOf (now (base .entry)) (now (system .entry)) (now (vector .entry)) (now (memory .entry)) (now (rows .entry))))
+        ⌝ }
+    ensures scratch { λ r. ⌜
+        Scratch (circuitOf j (length (now (vector .entry))) (now (sheet .entry)) (now (points .entry)))
+        (stateOf c (now (accepted .entry)) (buffersOf (now (base .entry)) (now (system .entry)) (now (vector .entry)) (now (memory .entry)) (now (rows .entry))))
+        (now (elimination .entry)) (now (elimination .exit))
         ⌝ }
 {
     let n = vector.len();
@@ -300,10 +304,11 @@ fn follow(
         ≡ aftermath j report c (now (accepted .entry)) (now (vector .entry)) (now (rows .entry))
         ⌝ }
 {
+    accept(report, c, accepted, vector);
     if c.phase == DC {
         return dc_done(j, report, c, vector, rows);
     }
-    step_done(j, report, c, accepted, vector, rows)
+    step_done(j, report, c, vector, rows)
 }
 
 // What follows the attempt of DC: the counters after it; where the transient begins, the first row is written.
@@ -317,22 +322,12 @@ fn dc_done(j: Job, report: Report, c: Counters, vector: &[f64], rows: &mut [f64]
     d
 }
 
-// What follows the attempt of a step: the counters after it; where the step is accepted, so is its vector, and the new time may get a row.
-fn step_done(
-    j: Job,
-    report: Report,
-    c: Counters,
-    accepted: &mut [f64],
-    vector: &[f64],
-    rows: &mut [f64],
-) -> Counters
-    requires { ⌜ length (now vector) ≡ length (now accepted) ⌝ }
-    ensures writes { λ r. ⌜ writtenOf r (now (rows .exit)) ≡ stepDone j report c (now (vector .entry)) (now (rows .entry)) ⌝ }
-    ensures accepts { λ r. ⌜ now (accepted .exit) ≡ cond (acceptsOf report) (now (vector .entry)) (now (accepted .entry)) ⌝ }
+// What follows the attempt of a step: the counters after it; where the step is accepted, the new time may get a row.
+fn step_done(j: Job, report: Report, c: Counters, vector: &[f64], rows: &mut [f64]) -> Counters
+    ensures { λ r. ⌜ writtenOf r (now (rows .exit)) ≡ stepDone j report c (now (vector .entry)) (now (rows .entry)) ⌝ }
 {
     let d = step_after(j.options, report, c);
     if accepts(report) {
-        copy(vector, accepted);
         return landed(j.options, d, vector, rows);
     }
     d

@@ -1,29 +1,29 @@
 -- What the list of the diodes is good for: with it a pass stamps what all records would stamp. Assumes nothing.
 -- Clients cite list-bounded, list-lists, listed-front, listed-whole and no-diodes.
 use Prim.Native.Nat.{ℕ, zero, suc, _+_, _-_, _<_, _≤_, min}
-use mathlib.Core.Path.{_≡_, refl, sym, ap, _∙_}
+use mathlib.Core.Path.{_≡_, refl, sym, ap, subst, _∙_}
 use mathlib.Core.Bool.{Bool, true, false, cond, _||_, false≢true}
-use mathlib.Core.List.{List}
+use mathlib.Core.List.{List, [], _∷_, _++_, append-nil, append-assoc}
 use native.Mathlib.Nat.{le-antisymm}
 use native.Mathlib.Numerals.{add-one}
 use native.Mathlib.Omega.{arith}
 use borrow.Author.Tests.{eqb-true, ltb-false}
 use lib.Dec.{eqb, ltb}
-use lib.ListN.{length, getD, set, take, length-set}
-use lib.Seq.{getD-set-same, getD-set-other, length-take-le, getD-take}
+use lib.ListN.{length, getD, set, take, drop, length-append}
+use lib.Seq.{length-take-le, getD-take, getD-at}
 use lib.Ieee.{Float}
 use Rattle.numbers.specs.Kinds.{diode}
 use Rattle.numbers.specs.Limits.{mostRecords}
 use Rattle.options.specs.declared.Options.{Options}
 use Rattle.loops.specs.Loop.{turns}
-use Rattle.loops.specs.laws.Loop.{turns-ext, turns-add}
+use Rattle.loops.specs.laws.Loop.{turns-ext, turns-add, store-next}
 use Rattle.sheet.specs.declared.Decoded.{Decoded}
 use Rattle.sheet.specs.declared.Decoded.the-variants.{Good, Refused}
 use Rattle.sheet.specs.Record.{recordAt, kindAt, diodeOf, elementOf, usesOf, restZero, ifZero, decodeOf}
 use Rattle.sheet.specs.Check.{recordsOf}
 use Rattle.groups.specs.Records.{elementAt, onRecord, outside, recordIn}
 use Rattle.groups.specs.Diodes.{Stamped, stampedOf, biased, biasedAt, diodesOf}
-use Rattle.groups.specs.Listed.{goodOf, diodeIn, Places, placesOf, joinedAt, diodePlaces, asDiode, listedAt, restAt, ListedTo, Listed, listedOf}
+use Rattle.groups.specs.Listed.{goodOf, diodeIn, diodesAmong, Places, placesOf, fronted, diodePlaces, asDiode, listedAt, restAt, ListedTo, Listed, listedOf}
 use Rattle.groups.specs.laws.Passing.{in-group}
 use Rattle.groups.specs.laws.Quiet.{quiet-biased}
 
@@ -79,46 +79,60 @@ module _ (sheet : List ℕ) (i : ℕ) where
 
 -- ---- the walk that makes the list
 
--- what holds of it after k records
-record After (sheet list : List ℕ) (k : ℕ) (p : Places) : Type 0 where
-  pub few : p .count ≤ k
-  pub as-long : length (p .list) ≡ length list
-  pub lists : ListedTo sheet k (p .count) (p .list)
+module _ (sheet : List ℕ) (k : ℕ) where
+  -- a record that is no diode leaves the list
+  among-same : diodeIn sheet k ≡ false → diodesAmong sheet (k + 1) ≡ diodesAmong sheet k
+  unfolding diodesAmong
+  among-same e = rw (add-one k, e) (append-nil (diodesAmong sheet k))
 
-module _ (sheet list : List ℕ) (k : ℕ) (p : Places) (h : After sheet list k p) where
-  passed : diodeIn sheet k ≡ false → After sheet list (suc k) p
-  passed e = record {
-    few = omega (arith, h .few);
-    as-long = h .as-long;
-    lists = record { all = λ o n x s. h .lists .all o n x s ∙ sym (no-diode sheet k o n x (turns k (biasedAt o sheet n x) s) e) };
-  }
+  -- a diode is put behind those before it
+  among-more : diodeIn sheet k ≡ true → diodesAmong sheet (k + 1) ≡ diodesAmong sheet k ++ (k ∷ [])
+  unfolding diodesAmong
+  among-more e = rw (add-one k, e)
 
-  found : diodeIn sheet k ≡ true → k < length list → After sheet list (suc k) (placesOf (p .count + 1) (set (p .list) (p .count) k))
-  found e l = record { few = omega (arith, h .few); as-long = length-set (p .list) (p .count) k ∙ h .as-long; lists = rw (add-one (p .count)) (record { all = one }) }
-    where
-      room : p .count < length (p .list)
-      room = omega (arith, h .few, h .as-long, l)
+-- no more are found than there were records
+one-few : (found : List ℕ) (k : ℕ) → length found ≤ k → (b : Bool) → length (found ++ cond b (k ∷ []) []) ≤ suc k
+one-few found k h true = rw (length-append found (k ∷ [])) (omega arith)
+one-few found k h false = rw (append-nil found) (omega arith)
 
-      one :
-          (o : Options) (n : ℕ) (x : List Float) (s : Stamped) →
-          listedAt o sheet n x (set (p .list) (p .count) k) (p .count) (turns (p .count) (listedAt o sheet n x (set (p .list) (p .count) k)) s)
-          ≡ biasedAt o sheet n x k (turns k (biasedAt o sheet n x) s)
-      one o n x s =
-          let new = listedAt o sheet n x (set (p .list) (p .count) k) in
-          let old = listedAt o sheet n x (p .list) in
-          let same : turns (p .count) new s ≡ turns (p .count) old s
-          = turns-ext new old (p .count) s (λ j q y. ap (λ (i : ℕ). asDiode o sheet n x i y) (getD-set-other (p .list) (p .count) j k 0 (λ z. omega arith))) in
-          rw (getD-set-same (p .list) (p .count) k 0 room, same, h .lists .all o n x s) (read-diode sheet k o n x (turns k (biasedAt o sheet n x) s) e)
+among-few : (sheet : List ℕ) (k : ℕ) → length (diodesAmong sheet k) ≤ k
+unfolding diodesAmong
+among-few sheet zero = omega arith
+among-few sheet (suc k) = one-few (diodesAmong sheet k) k (among-few sheet k) (diodeIn sheet k)
 
-  on : (b : Bool) → diodeIn sheet k ≡ b → k < length list → After sheet list (suc k) (joinedAt sheet k p)
-  on true e l = rw e (found e l)
-  on false e l = rw e (passed e)
+-- a diode's place, stored behind those found
+found-more : (found list : List ℕ) (k : ℕ) → length found < length list → placesOf (length found + 1) (set (fronted found list .list) (length found) k) ≡ fronted (found ++ (k ∷ [])) list
+found-more found list k h = rw (length-append found (k ∷ [])) (ap (placesOf (length found + 1)) (store-next found list (length found) k refl h))
 
-walk : (sheet list : List ℕ) (k : ℕ) → k ≤ length list → After sheet list k (turns k (joinedAt sheet) (placesOf 0 list))
-walk sheet list zero h = record { few = omega arith; as-long = refl; lists = record { all = λ o n x s. refl } }
-walk sheet list (suc k) h = on sheet list k _ (walk sheet list k (omega arith)) (diodeIn sheet k) refl (omega arith)
+-- one record of the walk: a place is written behind those found, or nothing is
+module _ (sheet list : List ℕ) (k c : ℕ) (now : List ℕ) (h : placesOf c now ≡ fronted (diodesAmong sheet k) list) where
+  pub walk-found : diodeIn sheet k ≡ true → k < length list → placesOf (c + 1) (set now c k) ≡ fronted (diodesAmong sheet (k + 1)) list
+  walk-found e l =
+      let f = among-few sheet k in
+      subst (λ (p : Places). placesOf (p .count + 1) (set (p .list) (p .count) k) ≡ fronted (diodesAmong sheet (k + 1)) list) (sym h)
+      (found-more (diodesAmong sheet k) list k (omega arith) ∙ ap (λ (found : List ℕ). fronted found list) (sym (among-more sheet k e)))
+
+  pub walk-passed : diodeIn sheet k ≡ false → placesOf c now ≡ fronted (diodesAmong sheet (k + 1)) list
+  walk-passed e = h ∙ ap (λ (found : List ℕ). fronted found list) (sym (among-same sheet k e))
 
 -- ---- the list
+
+-- the places found list the diodes, whatever stands behind them
+module _ (sheet : List ℕ) (k : ℕ) (found rest : List ℕ) (h : (behind : List ℕ) → ListedTo sheet k (length found) (found ++ behind)) where
+  with-record : (b : Bool) → diodeIn sheet k ≡ b → ListedTo sheet (suc k) (length (found ++ cond b (k ∷ []) [])) ((found ++ cond b (k ∷ []) []) ++ rest)
+  with-record true e = rw (length-append found (k ∷ []), add-one (length found), append-assoc found (k ∷ []) rest) (record { all = one })
+    where
+      one :
+          (o : Options) (n : ℕ) (x : List Float) (s : Stamped) →
+          turns (suc (length found)) (listedAt o sheet n x (found ++ (k ∷ rest))) s ≡ turns (suc k) (biasedAt o sheet n x) s
+      one o n x s = rw (getD-at found k rest 0 (length found) refl, h (k ∷ rest) .all o n x s) (read-diode sheet k o n x (turns k (biasedAt o sheet n x) s) e)
+  with-record false e =
+      rw (append-nil found) (record { all = λ o n x s. h rest .all o n x s ∙ sym (no-diode sheet k o n x (turns k (biasedAt o sheet n x) s) e) })
+
+among-lists : (sheet : List ℕ) (k : ℕ) (rest : List ℕ) → ListedTo sheet k (length (diodesAmong sheet k)) (diodesAmong sheet k ++ rest)
+unfolding diodesAmong
+among-lists sheet zero rest = record { all = λ o n x s. refl }
+among-lists sheet (suc k) rest = with-record sheet k (diodesAmong sheet k) rest (among-lists sheet k) (diodeIn sheet k) refl
 
 module _ (sheet list : List ℕ) (c : ℕ) (list′ : List ℕ) (e : placesOf c list′ ≡ diodePlaces sheet list) where
   -- it has no more places than the list that it is written over
@@ -126,8 +140,7 @@ module _ (sheet list : List ℕ) (c : ℕ) (list′ : List ℕ) (e : placesOf c 
   unfolding diodePlaces
   list-bounded =
       let k = min (min (recordsOf sheet) mostRecords) (length list) in
-      let w = walk sheet list k (omega arith) in
-      let f = rw (← e) at (w .few) in
+      let f : c ≤ k = subst (λ (p : Places). p .count ≤ k) (sym e) (among-few sheet k) in
       omega arith
 
   -- with room for 256 it has all of them
@@ -136,8 +149,7 @@ module _ (sheet list : List ℕ) (c : ℕ) (list′ : List ℕ) (e : placesOf c 
   list-lists h =
       let k = min (min (recordsOf sheet) mostRecords) (length list) in
       let u : k ≡ min (recordsOf sheet) mostRecords = omega arith in
-      let w = walk sheet list k (omega arith) in
-      rw (← u) (rw (← e) at (w .lists))
+      rw (← u) (subst (λ (p : Places). ListedTo sheet k (p .count) (p .list)) (sym e) (among-lists sheet k (drop (length (diodesAmong sheet k)) list)))
 
 -- cut out of the list, they are so too
 pub listed-front : (sheet : List ℕ) (c : ℕ) (list : List ℕ) → c ≤ length list → Listed sheet c list → Listed sheet (length (take c list)) (take c list)

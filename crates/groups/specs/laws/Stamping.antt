@@ -1,5 +1,5 @@
 -- Laws of a pass's stamping: no length changes, its verdicts are 0, 22 and 26, and the memory of a record that is no diode stays. Assumes nothing.
--- Clients cite Fine, fine and memory-stays.
+-- Clients cite Fine, fine and memory-stays; a further law of stamping on-record and diodes-fine.
 use Prim.Native.Nat.{ℕ}
 use mathlib.Core.Path.{_≡_, refl, sym, ap, _∙_}
 use mathlib.Core.Logic.{_⊎_, inl, inr, ⊎-elim}
@@ -43,7 +43,7 @@ use Rattle.groups.specs.laws.Passing.{apart}
 use Rattle.groups.specs.laws.Quiet.{quiet-biased}
 
 -- what holds of every element's part, and where there is none, holds of a record's
-on-record : {X : Type 0} (P : X → Type 0) (f : Element → X) (x : X) → ((e : Element) → P (f e)) → P x → (d : Decoded) → P (onRecord f x d)
+pub on-record : {X : Type 0} (P : X → Type 0) (f : Element → X) (x : X) → ((e : Element) → P (f e)) → P x → (d : Decoded) → P (onRecord f x d)
 on-record P f x h k (Good e) = h e
 on-record P f x h k (Refused r) = k
 
@@ -113,7 +113,7 @@ biased-fine o n x i m y (Vcvs p q cp cq k s) = untouched i m y
 biased-fine o n x i m y (Vccs p q cp cq k) = untouched i m y
 
 -- what any number of records makes of them
-abbrev Kept : List Float → List Float → Stamped → Type 0
+abbrev pub Kept : List Float → List Float → Stamped → Type 0
 Kept m y s = (length (s .matrix) ≡ length m) × (length (s .memory) ≡ length y) × ((s .code ≡ 0) ⊎ (s .code ≡ diodeCurrent))
 
 module _ (o : Options) (sheet : List ℕ) (n : ℕ) (x : List Float) where
@@ -125,7 +125,7 @@ module _ (o : Options) (sheet : List ℕ) (n : ℕ) (x : List Float) where
   diode-fine m y i s k true e = let f = at-record i (s .matrix) (s .memory) in rw e (f .matrix-length ∙ k .0, f .memory-length ∙ k .1, f .coded)
   diode-fine m y i s k false e = rw e k
 
-  diodes-fine : (m y : List Float) → Kept m y (diodesOf o sheet n x m y)
+  pub diodes-fine : (m y : List Float) → Kept m y (diodesOf o sheet n x m y)
   unfolding diodesOf
   diodes-fine m y =
       turns-inv (Kept m y) (biasedAt o sheet n x) (recordsOf sheet) (stampedOf 0 m y) (refl, refl, inl refl)

@@ -1,6 +1,6 @@
 -- What a pass keeps, for every stamping and solving f: a fact of the counters that no small change breaks holds after a solved pass if it holds of the
 -- counted counters; a pass that is not solved ends the run and counts nothing. Assumes nothing.
-use Prim.Native.Nat.{ℕ, _<_, _≤_}
+use Prim.Native.Nat.{ℕ}
 use mathlib.Core.Path.{_≡_, refl, sym, subst}
 use mathlib.Core.Bool.{Bool, true, false, cond}
 use mathlib.Core.List.{List}
@@ -13,17 +13,16 @@ use Rattle.convergence.specs.declared.Convergence.{Convergence}
 use Rattle.convergence.specs.declared.Convergence.the-variants as check
 use Rattle.convergence.specs.Convergence.{convergenceOf}
 use Rattle.steps.specs.declared.Counters.{Counters}
-use Rattle.steps.specs.declared.Report.{Report}
 use Rattle.steps.specs.declared.Report.the-variants.{Diode, Sine}
 use Rattle.numbers.specs.Verdicts.{diodeCurrent}
 use Rattle.steps.specs.Phases.{dcPhase, transientPhase}
 use Rattle.steps.specs.Counters.{counted, ended, withDc, going}
 use Rattle.steps.specs.Control.{reportOf, dcAfter, stepAfter, rowDue}
-use Rattle.steps.specs.laws.Control.{Ends, fills, Fails, «at-diode», «at-sine», Closed, dc-keeps, step-keeps}
+use Rattle.steps.specs.laws.Control.{fills, Fails, «at-diode», «at-sine», Closed, dc-keeps, step-keeps}
 use Rattle.steps.specs.Control.{solved}
 use Rattle.steps.specs.declared.Job.{Job}
 use Rattle.machine.specs.State.{State, Attempt, Written}
-use Rattle.machine.specs.Machine.{before, reported, tried, triedBy, writtenBy, landed, accepts, dcPass, stepPass, pass}
+use Rattle.machine.specs.Machine.{before, tried, triedBy, writtenBy, landed, accepts, dcPass, stepPass, pass}
 use Rattle.machine.specs.laws.Budget.{pass-stopped}
 
 -- ---- what an attempt reports
@@ -127,6 +126,17 @@ module _ (P : Counters → Type 0) (f : Attempt) (j : Job) (k : Closed (j .trans
 
 -- ---- a pass that is not solved
 
+-- how it fails with v, 22 or 26: in DC, with 22 just where that is the attempt's fault, and in a transient's step
+pub record DcFails (f : Attempt) (j : Job) (s : State) (v : ℕ) : Type 0 where
+  pub fails : Fails v
+  pub phase : s .counters .phase ≡ dcPhase
+  pub fault : eqb (faultAt f j s) 0 ≡ false
+  pub diode : eqb (faultAt f j s) diodeCurrent ≡ eqb v diodeCurrent
+
+pub record StepFails (s : State) (v : ℕ) : Type 0 where
+  pub fails : Fails v
+  pub phase : s .counters .phase ≡ transientPhase
+
 -- what holds of the counters c ended by a pass that failed: in a transient, and in DC, whose own verdict that is too
 pub record Failed (Q : Counters → Type 0) (c : Counters) (v : ℕ) : Type 0 where
   pub step : Q (ended v c)
@@ -134,25 +144,32 @@ pub record Failed (Q : Counters → Type 0) (c : Counters) (v : ℕ) : Type 0 wh
 
 module _ (f : Attempt) (j : Job) (s : State) (Q : Counters → Type 0) where
   -- a live run ends with 22 or 26, and nothing is counted
-  pub pass-failed : going (s .counters) ≡ true → eqb (faultAt f j s) 0 ≡ false → ((v : ℕ) → Fails v → Failed Q (s .counters) v) → Q (pass f j s .counters)
+  failed-by : going (s .counters) ≡ true → eqb (faultAt f j s) 0 ≡ false → ((v : ℕ) → DcFails f j s v → Q (ended v (withDc v (s .counters)))) → ((v : ℕ) → StepFails s v → Q (ended v (s .counters))) → Q (pass f j s .counters)
   unfolding pass dcPass stepPass dcAfter stepAfter
-  pass-failed g h q = by-phase (eqb (s .counters .phase) dcPhase) (eqb (s .counters .phase) transientPhase) (eqb (faultAt f j s) diodeCurrent) refl refl refl
+  failed-by g h d q = by-phase (eqb (s .counters .phase) dcPhase) (eqb (s .counters .phase) transientPhase) (eqb (faultAt f j s) diodeCurrent) refl refl refl
     where
-      by-phase : (a b d : Bool) → eqb (s .counters .phase) dcPhase ≡ a → eqb (s .counters .phase) transientPhase ≡ b → eqb (faultAt f j s) diodeCurrent ≡ d → Q (cond a (dcPass f j s) (cond b (stepPass f j s) s) .counters)
-      by-phase true b true x y z = rw (report-diode f j s h z) (q _ «at-diode» .dc)
-      by-phase true b false x y z = rw (report-sine f j s h z) (q _ «at-sine» .dc)
-      by-phase false true true x y z = rw (report-diode f j s h z) (q _ «at-diode» .step)
-      by-phase false true false x y z = rw (report-sine f j s h z) (q _ «at-sine» .step)
-      by-phase false false d x y z = absurd (neither (s .counters) g x y)
+      by-phase : (a b e : Bool) → eqb (s .counters .phase) dcPhase ≡ a → eqb (s .counters .phase) transientPhase ≡ b → eqb (faultAt f j s) diodeCurrent ≡ e → Q (cond a (dcPass f j s) (cond b (stepPass f j s) s) .counters)
+      by-phase true b true x y z = rw (report-diode f j s h z) (d _ (record { fails = «at-diode»; phase = eqb-true _ _ x; fault = h; diode = z }))
+      by-phase true b false x y z = rw (report-sine f j s h z) (d _ (record { fails = «at-sine»; phase = eqb-true _ _ x; fault = h; diode = z }))
+      by-phase false true true x y z = rw (report-diode f j s h z) (q _ (record { fails = «at-diode»; phase = eqb-true _ _ y }))
+      by-phase false true false x y z = rw (report-sine f j s h z) (q _ (record { fails = «at-sine»; phase = eqb-true _ _ y }))
+      by-phase false false e x y z = absurd (neither (s .counters) g x y)
+
+  -- the same, where it does not matter how
+  pub pass-failed : going (s .counters) ≡ true → eqb (faultAt f j s) 0 ≡ false → ((v : ℕ) → Fails v → Failed Q (s .counters) v) → Q (pass f j s .counters)
+  pass-failed g h q = failed-by g h (λ v e. q v (e .fails) .dc) (λ v e. q v (e .fails) .step)
 
 -- ---- any pass
 
 module _ (P : Counters → Type 0) (f : Attempt) (j : Job) (k : Closed (j .transient) P) (s : State) where
   -- a fact that no failed pass breaks either, of the counters as they are and as counted, holds after the pass
-  pub pass-keeps : Own (j .transient) (s .counters) → ((v : ℕ) → Fails v → Failed P (s .counters) v) → P (s .counters) → P (counted (s .counters)) → P (pass f j s .counters)
-  pass-keeps own e p q = by-going (going (s .counters)) refl (eqb (faultAt f j s) 0) refl
+  pub pass-keeps-by : Own (j .transient) (s .counters) → ((v : ℕ) → DcFails f j s v → P (ended v (withDc v (s .counters)))) → ((v : ℕ) → StepFails s v → P (ended v (s .counters))) → P (s .counters) → P (counted (s .counters)) → P (pass f j s .counters)
+  pass-keeps-by own d e p q = by-going (going (s .counters)) refl (eqb (faultAt f j s) 0) refl
     where
       by-going : (g : Bool) → going (s .counters) ≡ g → (b : Bool) → eqb (faultAt f j s) 0 ≡ b → P (pass f j s .counters)
       by-going false g b h = subst (λ (t : State). P (t .counters)) (sym (pass-stopped f j s g)) p
       by-going true g true h = pass-solved P f j k s g own h q
-      by-going true g false h = pass-failed f j s P g h e
+      by-going true g false h = failed-by f j s P g h d e
+
+  pub pass-keeps : Own (j .transient) (s .counters) → ((v : ℕ) → Fails v → Failed P (s .counters) v) → P (s .counters) → P (counted (s .counters)) → P (pass f j s .counters)
+  pass-keeps own e = pass-keeps-by own (λ v x. e v (x .fails) .dc) (λ v x. e v (x .fails) .step)

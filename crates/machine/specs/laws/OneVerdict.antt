@@ -1,6 +1,6 @@
 -- Every run has exactly one verdict, for every stamping and solving f: 24 where it is still going when its budget ends, and else one of its kind.
 -- Clients cite Verdict, Told, begins-told, one-verdict, still-going and DC's verdict. Assumes nothing.
-use Prim.Native.Nat.{ℕ, zero, suc, _<_, _≤_}
+use Prim.Native.Nat.{ℕ, zero, suc}
 use mathlib.Core.Path.{_≡_, refl}
 use mathlib.Core.Bool.{Bool, true, false, cond}
 use lib.Dec.{eqb}
@@ -20,7 +20,7 @@ pub data Ended (transient : Bool) (v : ℕ) : Type 0 where
   ends : Ends transient v → Ended transient v
   fails : Fails v → Ended transient v
 
--- the verdicts of a DC run (false): 0, 20, 21, 22, 24, 26; of a transient (true): 0, 21, 22, 23, 24, 25, 26
+-- the verdicts of a DC run (false), for any f: 0, 20, 21, 22, 24, 26 (NoSine: not 26 where f refuses no sine in DC); of a transient (true): 0, 21, 22, 23, 24, 25, 26
 pub data Verdict (transient : Bool) : ℕ → Type 0 where
   ended : {v : ℕ} → Ended transient v → Verdict transient v
   spent : Verdict transient budgetSpent

@@ -1,7 +1,7 @@
 -- `passes::run` meets its contract: where the lengths fit, with diodes or without, and where they do not. Assumes nothing.
 use Prim.Native.Nat.{ℕ, _≤_}
-use mathlib.Core.Path.{_≡_, sym, _∙_}
-use mathlib.Core.Bool.{true, _&&_, false≢true, and-eq-true-iff as both}
+use mathlib.Core.Path.{_≡_, refl, sym, _∙_}
+use mathlib.Core.Bool.{Bool, true, false, _&&_, false≢true, and-eq-true-iff as both}
 use borrow.Author.Tests.{eqb-true, leb-true, not-true, not-false}
 use lib.Dec.{eqb, leb}
 use lib.Seq.{length-take-le}
@@ -26,9 +26,13 @@ free l d r n e q t =
     let b = both (eqb d 0) (leb r 256) .0 t in
     (e ∙ eqb-true d 0 (b .0), rw (← q) (leb-true r 256 (b .1)))
 
+-- where the lengths fit, nothing is said of the elimination matrix
+unfit : {b : Bool} {T : Type 0} → b ≡ true → b ≡ false → T
+unfit f e = absurd (false≢true (sym e ∙ f))
+
 returns : tie.Need-returns
 unfolding runOn
-returns c = rw (sym (c .before .fits2 .ensures) ∙ not-true _ (c .if1 .taken))
+returns c = (rw (sym (c .before .fits2 .ensures) ∙ not-true _ (c .if1 .taken)), record { kept = λ e. refl })
 
 array-share-prefix-list : tie.Need-array-share-prefix-list
 array-share-prefix-list c = let l = c .before .before .before .list-diodes in within _ _ _ (list-bounded _ _ _ _ (l .ensures)) (l .kept .1 .0)
@@ -50,7 +54,10 @@ run-passes-requires c κs =
 
 returns-2 : tie.Need-returns-2
 unfolding runOn
-returns-2 c = rw (sym (c .before .before .before .before .before .before .before .before .before .before .before .before .before .before .before .before .before .before .before .before .before .before .before .before .before .before .before .before .before .fits2 .ensures) ∙ not-false _ (c .before .before .before .before .before .before .before .before .before .before .before .before .before .before .before .before .before .before .before .before .before .before .before .before .before .before .before .before .if1 .left)) (c .before .before .before .before .before .before .before .before .before .before .before .before .before .run-passes .ensures)
+returns-2 c =
+    let q = c .before .before .before .before .before .before .before .before .before .before .before .before .before .before .before .before .before .before .before .before .before .before .before .before .before .before .before .before in
+    let f = sym (q .before .fits2 .ensures) ∙ not-false _ (q .if1 .left) in
+    (rw f (c .before .before .before .before .before .before .before .before .before .before .before .before .before .run-passes .ensures), record { kept = unfit f })
 
 array-share-prefix-list-2 : tie.Need-array-share-prefix-list-2
 array-share-prefix-list-2 c = let l = c .before .before .before .list-diodes in within _ _ _ (list-bounded _ _ _ _ (l .ensures)) (l .kept .1 .0)
@@ -65,7 +72,10 @@ run-held-requires c κs =
 
 returns-3 : tie.Need-returns-3
 unfolding runOn
-returns-3 c = rw (sym (c .before .before .before .before .before .before .before .before .before .before .before .before .before .before .before .before .before .before .before .before .before .before .before .before .before .before .before .fits2 .ensures) ∙ not-false _ (c .before .before .before .before .before .before .before .before .before .before .before .before .before .before .before .before .before .before .before .before .before .before .before .before .before .before .if1 .left)) (c .before .before .before .before .before .before .before .before .before .before .before .before .run-held .ensures)
+returns-3 c =
+    let q = c .before .before .before .before .before .before .before .before .before .before .before .before .before .before .before .before .before .before .before .before .before .before .before .before .before .before in
+    let f = sym (q .before .fits2 .ensures) ∙ not-false _ (q .if1 .left) in
+    (rw f (c .before .before .before .before .before .before .before .before .before .before .before .before .run-held .ensures), record { kept = unfit f })
 
 pub run-spec : {M : Type 1} → statement M
 run-spec =

@@ -11,7 +11,7 @@ returns c = rw (ne-eqb _ _ (c .if1 .taken))
 
 returns-2 : tie.Need-returns-2
 unfolding asDiode
-returns-2 c = rw (eq-eqb _ _ (c .before .before .before .before .before .before .before .before .if1 .left), ← c .before .before .before .before .before .before .before .record-at .ensures) (c .before .before .before .before .diode-one .ensures)
+returns-2 c = rw (eq-eqb _ _ (c .before .before .before .before .before .before .before .before .if1 .left), ← c .before .before .before .before .before .before .before .diode-at .ensures) (c .before .before .before .before .diode-one .ensures)
 
 pub as-diode-spec : {M : Type 1} → statement M
 as-diode-spec = tie.close (tie.spec returns (λ c κs. search needs) (λ c κs. search needs) (λ c. search needs) (λ c. search needs) returns-2)

@@ -2,23 +2,24 @@
 use Prim.Native.Nat.{_-_, _≤_}
 use mathlib.Core.Path.{_≡_, refl, sym, _∙_}
 use mathlib.Core.Logic.{⊎-elim}
+use native.Mathlib.Nat.{le-antisymm}
 use native.Mathlib.Omega.{arith}
 use lib.ListN.{length, length-set}
-use Rattle.loops.specs.Loop.{turns}
-use Rattle.loops.specs.laws.Loop.{more, done}
-use Rattle.groups.specs.Listed.{Places, placesOf, joinedAt, diodePlaces}
+use Rattle.groups.specs.Listed.{Places, placesOf, diodesAmong, fronted, diodePlaces}
+use Rattle.groups.specs.laws.Listed.{walk-found, walk-passed}
 use borrow.Author.Needs.{needs}
 use Rattle.groups.proofs.diodes.list_diodes.Statement.{statement}
 use Rattle.groups.proofs.diodes.list_diodes.Tie as tie
 
 abbrev Inv-loop : tie.InvT-loop
 Inv-loop sheet places₀ count found₀ i₀ places found i =
-    (i ≤ count) × (found ≤ i) × (count ≤ 256) × (count ≤ length places₀) × (length places ≡ length places₀) × (_≡_ {A = Places} (placesOf found places) (turns i (joinedAt sheet) (placesOf 0 places₀)))
+    (i ≤ count) × (found ≤ i) × (count ≤ 256) × (count ≤ length places₀) × (length places ≡ length places₀) × (_≡_ {A = Places} (placesOf found places) (fronted (diodesAmong sheet i) places₀))
 
 abbrev μ-loop : tie.MeasureT-loop
 μ-loop sheet places₀ count found₀ i₀ places found i = count - i
 
 loop-holds : tie.Need-loop-holds Inv-loop μ-loop
+unfolding diodesAmong
 loop-holds c = (omega arith, omega arith, omega arith, omega arith, refl, refl)
 
 loop-again : tie.Need-loop-again Inv-loop μ-loop
@@ -26,7 +27,7 @@ loop-again c =
     let l = c .before .before .before .loop in
     let sheet = c .before .before .before .before .before .before .before .before .args .sheet .now in
     let test = c .before .diode-in .ensures in
-    let next = more (joinedAt sheet) (placesOf (l .found) (l .places)) _ (l .i) (l .inv .5) in
+    let list = c .before .before .before .before .before .before .before .before .args .places .now in
     ⊎-elim
     (λ u. (
       omega arith,
@@ -34,7 +35,7 @@ loop-again c =
       l .inv .2,
       l .inv .3,
       rw (u .1) (simp length-set (l .inv .4)),
-      rw (u .2, u .1) (rw (sym test ∙ u .0 .taken) at next),
+      rw (u .2, u .1) (walk-found sheet list (l .i) (l .found) (l .places) (l .inv .5) (sym test ∙ u .0 .taken) (omega arith)),
     ))
     (λ u. (
       omega arith,
@@ -42,7 +43,7 @@ loop-again c =
       l .inv .2,
       l .inv .3,
       rw (u .1) (l .inv .4),
-      rw (u .2, u .1) (rw (sym test ∙ u .0 .left) at next),
+      rw (u .2, u .1) (walk-passed sheet list (l .i) (l .found) (l .places) (l .inv .5) (sym test ∙ u .0 .left)),
     ))
     (c .if1 .came)
 
@@ -50,7 +51,7 @@ returns : tie.Need-returns Inv-loop μ-loop
 unfolding diodePlaces
 returns c =
     let l = c .before .loop in
-    rw (← c .before .before .before .records .ensures, ← c .before .before .walked .ensures) (done _ _ _ (l .i) _ (l .inv .0) (c .loop-test .left) (l .inv .5))
+    rw (← c .before .before .before .records .ensures, ← c .before .before .walked .ensures, le-antisymm (c .loop-test .left) (l .inv .0)) (l .inv .5)
 
 pub list-diodes-spec : {M : Type 1} → statement M
 list-diodes-spec =
