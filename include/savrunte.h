@@ -95,7 +95,7 @@ typedef struct savrunte_companion {
 
 typedef struct savrunte_diode_answer {
     uint64_t verdict;    /* 0, or 22 when the diode's current is not finite */
-    double g, i, memory; /* conductance, current, the limited voltage to remember */
+    double g, i, memory; /* conductance, current, the limited voltage to remember; with 22: 0.0, 0.0, the memory handed in */
 } savrunte_diode_answer;
 
 /* ---- runs ---- */

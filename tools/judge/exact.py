@@ -34,15 +34,15 @@ def residual(row, vector):
 
 
 def judged(rows, system, vector, tolerances):
-    """The refusal (0 if none) and the first row beyond its tolerance (`rows` if there is none or the call is refused)."""
+    """The refusal (0 if none) and the first row beyond its tolerance (`rows` if there is none, 0 if the call is refused)."""
     if rows == 0 or rows > MOST:
-        return 1, rows
+        return 1, 0
     width = rows + 1
     if len(system) < rows * width or len(vector) < rows or len(tolerances) < rows:
-        return 5, rows
+        return 5, 0
     system, vector, tolerances = system[:rows * width], vector[:rows], tolerances[:rows]
     if not all(map(finite, system + vector + tolerances)) or any(map(below_zero, tolerances)):
-        return 11, rows
+        return 11, 0
     for i in range(rows):
         if abs(residual(system[i * width:(i + 1) * width], vector)) > Fraction(float_of(tolerances[i])):
             return 0, i

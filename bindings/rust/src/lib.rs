@@ -110,7 +110,7 @@ pub enum Judgement {
 #[derive(Clone, Copy, Debug, PartialEq)]
 pub enum Diode {
     Linear { g: f64, i: f64, memory: f64 },
-    /// The current is not finite (verdict 22).
+    /// The current is not finite (verdict 22): there is no model, and the diode keeps what it remembers.
     NotFinite,
 }
 
@@ -226,4 +226,16 @@ pub fn diode(i_sat: f64, tdegc: f64, v: f64, memory: f64, options: Options) -> D
         return Diode::NotFinite;
     }
     Diode::Linear { g: r.g, i: r.i, memory: r.memory }
+}
+
+#[cfg(test)]
+mod tests {
+    use super::{raw, Options};
+
+    /// With 22 there is no model, and the memory is the one handed in.
+    #[test]
+    fn a_failed_diode_keeps_its_memory() {
+        let r = unsafe { raw::savrunte_diode(f64::INFINITY, 27.0, 0.5, 0.25, Options::bench()) };
+        assert_eq!((r.verdict, r.g, r.i, r.memory), (22, 0.0, 0.0, 0.25));
+    }
 }

@@ -1,8 +1,8 @@
--- What the convergence check answers. Clients cite convergenceOf and numberOf. Definitions only.
-use Prim.Native.Nat.{ℕ}
-use mathlib.Core.Bool.{Bool, true, false, cond}
+-- What the convergence check answers. Clients cite convergenceOf, Numbers, numbersOf and numberOf. Definitions only.
+use Prim.Native.Nat.{ℕ, _+_}
+use mathlib.Core.Bool.{Bool, cond}
 use mathlib.Core.List.{List}
-use lib.Dec.{eqb, ltb}
+use lib.Dec.{ltb}
 use lib.ListN.{getD, length}
 use lib.Ieee as Ieee
 use lib.Ieee.{Float, nan, binary64}
@@ -14,12 +14,20 @@ use Rattle.options.specs.declared.Options.{Options}
 use Rattle.convergence.specs.declared.Convergence.{Convergence}
 use Rattle.convergence.specs.declared.Convergence.the-variants.{Yes, No, Error, Refused}
 
--- the answer as one number: 0 yes, 1 no, 2 error; a refusal is 5
+-- the numbers of an answer: the refusal, 0 if none, and the state: 0 yes, 1 no, 2 error, 0 if refused
+pub record Numbers : Type 0 where
+  pub refusal : ℕ
+  pub state : ℕ
+
+abbrev pub numbersOf : Convergence → Numbers
+numbersOf Yes = record { refusal = 0; state = 0 }
+numbersOf No = record { refusal = 0; state = 1 }
+numbersOf Error = record { refusal = 0; state = 2 }
+numbersOf Refused = record { refusal = byRoom; state = 0 }
+
+-- as one number, of which no two answers have the same: 0 yes, 1 no, 2 error, 5 refused
 abbrev pub numberOf : Convergence → ℕ
-numberOf Yes = 0
-numberOf No = 1
-numberOf Error = 2
-numberOf Refused = byRoom
+numberOf c = numbersOf c .refusal + numbersOf c .state
 
 -- |x| RELTOL + VNTOL (nodes) or ABSTOL (sources)
 unfoldable pub limit : Float → Bool → Options → Float

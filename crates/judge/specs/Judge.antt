@@ -1,4 +1,4 @@
--- What the judge answers. Clients cite judgeOf, judgeRefusal and numbersOf, and the laws in laws/Judge.antt that say exactly when. Definitions only.
+-- What the judge answers. Clients cite judgeOf, judgeRefusal, Numbers and numbersOf, and the laws in laws/Judge.antt that say exactly when. Definitions only.
 use mathlib.Core.Path.{_≡_}
 use Prim.Native.Nat.{ℕ, zero, suc, _+_, _*_, _≤_, _<_}
 use mathlib.Core.Bool.{Bool, true, false, not, cond, _&&_, _||_}
@@ -57,7 +57,7 @@ judgeOf n m x t = cond (eqb (judgeRefusal n m x t) 0) (named (holds n m x t) n 0
 
 -- ---- the numbers of an answer
 
--- the refusal, 0 if none, and the row that does not hold, n if none
+-- the refusal, 0 if none, and the row: the first that does not hold, n if every one does, 0 if refused
 pub record Numbers : Type 0 where
   pub refusal : ℕ
   pub row : ℕ
@@ -65,7 +65,7 @@ pub record Numbers : Type 0 where
 abbrev pub numbersOf : ℕ → Judged → Numbers
 numbersOf n Accepted = record { refusal = 0; row = n }
 numbersOf n (Rejected i) = record { refusal = 0; row = i }
-numbersOf n (Refused k) = record { refusal = k; row = n }
+numbersOf n (Refused k) = record { refusal = k; row = 0 }
 
 -- ---- what is not refused
 

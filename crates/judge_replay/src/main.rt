@@ -1,5 +1,5 @@
 // Judges each system that the file named by the first argument holds, and compares the answer with the one stored beside it, which exact fractions gave (tools/judge).
-// A system is a head of 16 bytes, little-endian: rows (32 bits), how many floats of system, vector and tolerances follow (16 each), the refusal (16; 0 if none), the row (32; rows if none).
+// A system is a head of 16 bytes, little-endian: rows (32 bits), how many floats of system, vector and tolerances follow (16 each), the refusal (16; 0 if none), the row (32; rows if every one holds, 0 if refused).
 // Writes how many were judged, by answer, and how many differ; each that differs is named by its place, from 0.
 ghost use Prim.Native.Nat.{_+_, _*_, _≤_};
 ghost use lib.ListN.{length};
@@ -164,12 +164,12 @@ fn compared(j: Judged, h: Head) -> Outcome {
     }
 }
 
-// Whether the answer is the stored one: the refusal, and the row, which is the row count where there is none.
+// Whether the answer is the stored one: the refusal, and the row, which is the row count where every row holds, and 0 where the call is refused.
 fn same(j: Judged, h: Head) -> bool {
     match j {
         Judged::Accepted => h.refusal == 0 && h.row == h.rows,
         Judged::Rejected(i) => h.refusal == 0 && h.row == i,
-        Judged::Refused(k) => h.refusal == k && h.row == h.rows,
+        Judged::Refused(k) => h.refusal == k && h.row == 0,
     }
 }
 

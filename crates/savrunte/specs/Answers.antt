@@ -1,42 +1,34 @@
--- The answers of the C door: each enum answer as document 01's numbers. Clients cite the ..Answer definitions.
+-- The answers of the C door: the numbers that each enum's own crate tells of it. Clients cite the ..Answer definitions.
 use Prim.Native.Nat.{ℕ}
-use Rattle.numbers.specs.Refusals.{byRoom, byArgument}
-use Rattle.numbers.specs.Verdicts.{diodeCurrent}
-use Rattle.num.specs.Floats.{nought}
+use lib.Ieee.{Float}
 use Rattle.judge.specs.declared.Judged.{Judged}
-use Rattle.judge.specs.declared.Judged.the-variants.{Accepted, Rejected, Refused as RefusedJudge}
-use Rattle.savrunte.specs.declared.JudgeAnswer.{JudgeAnswer}
+use Rattle.judge.specs.Judge as judge
 use Rattle.functions.specs.declared.Sine.{Sine}
-use Rattle.functions.specs.declared.Sine.the-variants.{Value, Refused}
+use Rattle.functions.specs.Sin as sine
 use Rattle.convergence.specs.declared.Convergence.{Convergence}
-use Rattle.convergence.specs.declared.Convergence.the-variants.{Yes, No, Error, Refused as RefusedCheck}
+use Rattle.convergence.specs.Convergence as convergence
 use Rattle.models.specs.declared.capacitor.Companion.{Companion}
 use Rattle.models.specs.declared.diode.Linear.{Linear}
-use Rattle.models.specs.declared.diode.Linear.the-variants.{Model, NotFinite}
+use Rattle.models.specs.Diode as diode
+use Rattle.savrunte.specs.declared.JudgeAnswer.{JudgeAnswer}
 use Rattle.savrunte.specs.declared.CompanionAnswer.{CompanionAnswer}
 use Rattle.savrunte.specs.declared.DiodeAnswer.{DiodeAnswer}
 use Rattle.savrunte.specs.declared.SinAnswer.{SinAnswer}
 use Rattle.savrunte.specs.declared.ConvergenceAnswer.{ConvergenceAnswer}
 
 unfoldable pub sinAnswer : Sine → SinAnswer
-sinAnswer (Value y) = record { refusal = 0; value = y }
-sinAnswer Refused = record { refusal = byArgument; value = nought }
+sinAnswer s = let t = sine.numbersOf s in record { refusal = t .refusal; value = t .value }
 
 unfoldable pub convergenceAnswer : Convergence → ConvergenceAnswer
-convergenceAnswer Yes = record { refusal = 0; state = 0 }
-convergenceAnswer No = record { refusal = 0; state = 1 }
-convergenceAnswer Error = record { refusal = 0; state = 2 }
-convergenceAnswer RefusedCheck = record { refusal = byRoom; state = 0 }
+convergenceAnswer c = let t = convergence.numbersOf c in record { refusal = t .refusal; state = t .state }
 
--- the row count stands for "every row holds"
+-- of so many rows
 unfoldable pub judgeAnswer : ℕ → Judged → JudgeAnswer
-judgeAnswer rows Accepted = record { refusal = 0; row = rows }
-judgeAnswer rows (Rejected i) = record { refusal = 0; row = i }
-judgeAnswer rows (RefusedJudge k) = record { refusal = k; row = 0 }
+judgeAnswer rows j = let t = judge.numbersOf rows j in record { refusal = t .refusal; row = t .row }
 
 abbrev pub companion : Companion → CompanionAnswer
 companion c = record { g = c .g; i = c .i }
 
-unfoldable pub diodeAnswer : Linear → DiodeAnswer
-diodeAnswer (Model g i m) = record { verdict = 0; g = g; i = i; memory = m }
-diodeAnswer NotFinite = record { verdict = diodeCurrent; g = nought; i = nought; memory = nought }
+-- of a diode with this memory
+unfoldable pub diodeAnswer : Float → Linear → DiodeAnswer
+diodeAnswer memory l = let t = diode.numbersOf memory l in record { verdict = t .verdict; g = t .g; i = t .i; memory = t .memory }

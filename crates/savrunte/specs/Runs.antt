@@ -1,20 +1,19 @@
 -- The answers of a DC run and of a transient, and with them the lent buffers afterwards. Clients cite dcResult and transientResult.
-use Rattle.num.specs.Floats.{nought}
 use Rattle.machine.specs.State.{Buffers}
 use Rattle.engine.specs.declared.Outcome.{Outcome}
-use Rattle.engine.specs.declared.Outcome.the-variants.{Refused, Ended}
 use Rattle.engine.specs.Engine.{Result}
+use Rattle.engine.specs.Numbers.{numbersOf}
 use Rattle.savrunte.specs.declared.DcAnswer.{DcAnswer}
 use Rattle.savrunte.specs.declared.TransientAnswer.{TransientAnswer}
 
--- "On refusal every other field is 0"
+-- the numbers of a run's answer
 unfoldable pub dcAnswer : Outcome → DcAnswer
-dcAnswer (Refused k i) = record { refusal = k; place = i; verdict = 0; passes = 0 }
-dcAnswer (Ended e) = record { refusal = 0; place = 0; verdict = e .verdict; passes = e .passes }
+dcAnswer r = let t = numbersOf r in record { refusal = t .refusal; place = t .place; verdict = t .verdict; passes = t .passes }
 
 unfoldable pub transientAnswer : Outcome → TransientAnswer
-transientAnswer (Refused k i) = record { refusal = k; place = i; verdict = 0; «dc_verdict» = 0; passes = 0; rows = 0; end = nought }
-transientAnswer (Ended e) = record { refusal = 0; place = 0; verdict = e .verdict; «dc_verdict» = e .dc; passes = e .passes; rows = e .rows; end = e .end }
+transientAnswer r =
+    let t = numbersOf r in
+    record { refusal = t .refusal; place = t .place; verdict = t .verdict; «dc_verdict» = t .dc; passes = t .passes; rows = t .rows; end = t .end }
 
 -- the door's answer, and each lent buffer afterwards
 pub record Dc : Type 0 where

@@ -1,5 +1,5 @@
 // The C door: each exported function is thin over a proved one, and its answer is that one's as numbers. The header is include/savrunte.h; `rt staticlib savrunte` makes the archive.
-// Every function is total. On a refusal every other field of the answer is 0.
+// Every function is total. On a refusal every other field of the answer is 0, but for the place. The numbers of each answer stand beside its enum, as `told`.
 ghost use mathlib.Core.Path.{_≡_};
 ghost use mathlib.Core.Bool.{true, false};
 ghost use mathlib.Core.List.{[]};
@@ -320,7 +320,7 @@ pub extern "C" fn savrunte_diode(
     memory: f64,
     options: Options,
 ) -> DiodeAnswer
-    ensures { λ r. ⌜ r ≡ diodeAnswer (linearized options «i_sat» tdegc v memory) ⌝ }
+    ensures { λ r. ⌜ r ≡ diodeAnswer memory (linearized options «i_sat» tdegc v memory) ⌝ }
 {
     let d = models::diode::linearize(options, i_sat, tdegc, v, memory);
     match d {
@@ -334,7 +334,7 @@ pub extern "C" fn savrunte_diode(
             verdict: numbers::verdict::DIODE_CURRENT as u64,
             g: 0.0,
             i: 0.0,
-            memory: 0.0,
+            memory: memory,
         },
     }
 }
@@ -372,22 +372,16 @@ pub extern "C" fn savrunte_judge(
     }
 }
 
+// Of a transient's numbers those that a DC run has.
 fn dc_answer(r: Outcome) -> DcAnswer
     ensures { λ a. ⌜ a ≡ dcAnswer r ⌝ }
 {
-    match r {
-        Outcome::Refused(k, i) => DcAnswer {
-            refusal: k as u64,
-            place: i as u64,
-            verdict: 0,
-            passes: 0,
-        },
-        Outcome::Ended(e) => DcAnswer {
-            refusal: 0,
-            place: 0,
-            verdict: e.verdict as u64,
-            passes: e.passes,
-        },
+    let t = transient_answer(r);
+    DcAnswer {
+        refusal: t.refusal,
+        place: t.place,
+        verdict: t.verdict,
+        passes: t.passes,
     }
 }
 

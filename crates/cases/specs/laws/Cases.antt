@@ -37,11 +37,10 @@ use Rattle.steps.specs.Counters as counters
 use Rattle.machine.specs.State.{buffersOf}
 use Rattle.machine.specs.Machine as machine
 use Rattle.passes.specs.Attempt as attempt
-use Rattle.engine.specs.declared.Ending.{Ending}
 use Rattle.engine.specs.declared.Outcome.{Outcome}
-use Rattle.engine.specs.declared.Outcome.the-variants.{Refused, Ended}
 use Rattle.engine.specs.Begin as begin
 use Rattle.engine.specs.Engine as engine
+use Rattle.engine.specs.Numbers as outcome
 use Rattle.engine.specs.Work as work
 use Rattle.exact.specs.Exact as exact
 use Rattle.judge.specs.Judge as judge
@@ -86,10 +85,9 @@ run transient itl1 nodes srcs s =
     let w = fives (4 * (n + 1)) in
     engine.runOf (engine.callOf (bench itl1) transient nodes srcs s [] m (buffersOf m m (fives n) y w))
 
--- verdict, DC verdict, passes and rows; or the refusal and its place
+-- verdict (or refusal), DC verdict, passes and rows
 abbrev told : Outcome → List ℕ
-told (Ended e) = e .verdict ∷ e .dc ∷ e .passes ∷ e .rows ∷ []
-told (Refused k i) = k ∷ i ∷ []
+told r = let t = outcome.numbersOf r in outcome.numberOf r ∷ t .dc ∷ t .passes ∷ t .rows ∷ []
 
 -- a DC run: what is told, and the vector
 abbrev dc : ℕ → ℕ → ℕ → List ℕ → List ℕ

@@ -1,4 +1,4 @@
--- Exactly when the judge accepts, names a row, or refuses, over whole numbers. Clients cite Within, FirstBeyond, no-refusal, no-refusal-only, refusal-is, accepts, accepts-only, rejects, rejects-only.
+-- Exactly when the judge accepts, names a row, or refuses, over whole numbers. Clients cite Within, FirstBeyond, no-refusal, no-refusal-only, refusal-is, accepts, accepts-only, rejects, rejects-only, accepted-numbers.
 use mathlib.Core.Path.{_≡_, refl, sym, ap, _∙_, subst}
 use mathlib.Core.Bool.{Bool, true, false, cond, _||_, and-eq-true-iff as both}
 use mathlib.Mathlib.Data.Bool.Basic.{or-eq-false-eq-eq-false-and-eq-false as neither}
@@ -219,3 +219,12 @@ module _ (n : ℕ) (m x t : List Float) where
       let g = given (Rejected r) e refl in
       let f = found _ n 0 r (sym (answer g) ∙ e) in
       (g, record { is-row = omega (arith, f .below); beyond = λ h. fails-not _ (f .fails) (is-within _ _ h); before = λ j h. at-most _ _ (f .before j (omega arith) h) })
+
+  -- no row that is named is n, so that the two numbers tell accepted from rejected
+  pub accepted-numbers : numbersOf n (judgeOf n m x t) .refusal ≡ 0 → numbersOf n (judgeOf n m x t) .row ≡ n → judgeOf n m x t ≡ Accepted
+  accepted-numbers e l = go (judgeOf n m x t) refl l
+    where
+      go : (a : Judged) → judgeOf n m x t ≡ a → numbersOf n a .row ≡ n → judgeOf n m x t ≡ Accepted
+      go Accepted q h = q
+      go (Rejected r) q h = absurd (omega (arith, rejects-only r q .1 .is-row))
+      go (Refused k) q h = absurd (omega (arith, no-refusal-only (sym refusal-is ∙ e) .some))
