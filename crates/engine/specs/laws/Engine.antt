@@ -1,13 +1,23 @@
--- A call from its parts: refused, or from what its work leaves. Clients cite run-refused and run-ended. Assumes nothing.
+-- A call from its parts: refused, or from what its work leaves. Clients cite run-by-check, run-refused and run-ended. Assumes nothing.
 use Prim.Native.Nat.{ℕ}
-use mathlib.Core.Path.{_≡_, ap}
+use mathlib.Core.Path.{_≡_, refl, ap}
 use Rattle.sheet.specs.declared.Checked.{Checked}
 use Rattle.sheet.specs.declared.Checked.the-variants.{Clean, Faulty}
 use Rattle.steps.specs.declared.Counters.{Counters}
 use Rattle.machine.specs.State.{Buffers}
 use Rattle.engine.specs.declared.Outcome.{Outcome}
 use Rattle.engine.specs.Work.{Handover, handoverOf, handover}
-use Rattle.engine.specs.Engine.{Call, sizes, checkedCall, resultOf, endingOf, refusedOf, lastOf, laid, runOf}
+use Rattle.engine.specs.Engine.{Call, sizes, checkedCall, Result, resultOf, endingOf, refusedOf, lastOf, laid, unless, runOf}
+
+-- what holds of a refused call and of one that runs holds of every call
+pub run-by-check : (c : Call) (P : Result → Type 0) → (checkedCall c ≡ Clean → P (resultOf (endingOf (lastOf c .counters)) (laid (sizes c) (lastOf c .buffers) (c .lent))))
+    → ((k i : ℕ) → checkedCall c ≡ Faulty k i → P (resultOf (refusedOf (Faulty k i)) (c .lent))) → P (runOf c)
+unfolding runOf
+run-by-check c P f g = go (checkedCall c) refl
+  where
+    go : (x : Checked) → checkedCall c ≡ x → P (unless x (resultOf (endingOf (lastOf c .counters)) (laid (sizes c) (lastOf c .buffers) (c .lent))) (resultOf (refusedOf x) (c .lent)))
+    go Clean e = f e
+    go (Faulty k i) e = g k i e
 
 module _ (c : Call) where
   -- a refused call

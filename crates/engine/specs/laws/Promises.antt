@@ -1,8 +1,7 @@
 -- What every call that is not refused keeps, whatever its input: it ends with exactly one verdict of its kind, within its budget of passes, and changes no row buffer past the rows it wrote.
--- Clients cite ends, dc-ends, within-budget, budget-spent, rows-stand and base-made. Assumes nothing.
+-- Clients cite ends, within-budget, budget-spent, rows-stand and base-made. Assumes nothing.
 use Prim.Native.Nat.{ℕ, _+_, _≤_}
 use mathlib.Core.Path.{_≡_}
-use mathlib.Core.Bool.{false}
 use lib.ListN.{length, take, length-replicate}
 use native.Mathlib.Omega.{arith}
 use Rattle.num.specs.Floats.{nought}
@@ -10,10 +9,10 @@ use Rattle.numbers.specs.Verdicts.{budgetSpent}
 use Rattle.sheet.specs.declared.Checked.the-variants.{Clean}
 use Rattle.checks.specs.Checks.{order, records}
 use Rattle.checks.specs.laws.Checks.{fine, clean-fine}
-use Rattle.steps.specs.Counters.{top, verdictOf, dcVerdictOf}
+use Rattle.steps.specs.Counters.{top, verdictOf}
 use Rattle.machine.specs.State.{State, Attempt}
 use Rattle.machine.specs.laws.Budget.{run-base}
-use Rattle.machine.specs.laws.OneVerdict.{Verdict, begins-told, one-verdict, still-going, dc-verdict}
+use Rattle.machine.specs.laws.OneVerdict.{Verdict, begins-told, one-verdict, still-going}
 use Rattle.machine.specs.laws.Units.{units, within, passes-at-24}
 use Rattle.machine.specs.laws.Rows.{Grown, run-grown}
 use Rattle.passes.specs.Attempt.{attemptOf}
@@ -31,15 +30,10 @@ module _ (c : Call) where
   abbrev budget : ℕ
   budget = c .job .options .budget
 
-  -- the verdict is one of a DC run's (0, 20, 21, 22, 24, 26) or of a transient's (0, 21, 22, 23, 24, 25, 26)
+  -- the verdict is one of a DC run's (0, 20, 21, 22, 24, 26) or of a transient's (0, 21, 22, 23, 24, 25, 26); NoSine says that a DC run's is not 26
   pub ends : Verdict (c .job .transient) (verdictOf (lastOf c .counters))
   unfolding endOf
   ends = one-verdict tries (c .job) budget start (begins-told (c .job .transient))
-
-  -- and DC's verdict one of a DC run's
-  pub dc-ends : Verdict false (dcVerdictOf (lastOf c .counters))
-  unfolding endOf
-  dc-ends = dc-verdict tries (c .job) budget start (begins-told (c .job .transient))
 
   module _ (clean : checkedCall c ≡ Clean) where
     small : 0 + budget ≤ top
