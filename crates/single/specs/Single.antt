@@ -10,9 +10,9 @@ use Rattle.sheet.specs.Record.{recordBytes}
 use Rattle.checks.specs.declared.Sizes.{Sizes}
 use Rattle.machine.specs.State.{Buffers, buffersOf}
 use Rattle.engine.specs.declared.Outcome.{Outcome}
-use Rattle.engine.specs.declared.Outcome.the-variants.{Refused, Ended}
 use Rattle.engine.specs.Work.{zeros}
 use Rattle.engine.specs.Engine.{Call, callOf, Result, runOf}
+use Rattle.engine.specs.Numbers.{numbersOf, numberOf}
 use Rattle.single.specs.declared.Mark.{Mark}
 
 abbrev pub markAs : ℕ → ℕ → ℕ → Mark
@@ -20,8 +20,7 @@ markAs number place passes = record { number = number; place = place; passes = p
 
 -- "A job refused by 6 to 10 is counted under its number, with 0 passes"
 unfoldable pub markOf : Outcome → Mark
-markOf (Refused k i) = markAs k i 0
-markOf (Ended e) = markAs (e .verdict) 0 (e .passes)
+markOf r = markAs (numberOf r) (numbersOf r .place) (numbersOf r .passes)
 
 -- what a job makes: what is written down for it, its vector, and the last system stamped whole
 pub record Single : Type 0 where

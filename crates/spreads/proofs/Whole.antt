@@ -1,49 +1,30 @@
 -- The call from its parts: what the runs leave is what the report reads. Assumes nothing.
-use Prim.Native.Nat.{ℕ, zero, suc, _+_, _*_, _<_}
-use mathlib.Core.Path.{_≡_, refl, sym, ap, _∙_}
+use Prim.Native.Nat.{ℕ, _+_, _<_}
+use mathlib.Core.Path.{_≡_, sym, ap, _∙_}
 use mathlib.Core.List.{List, _++_}
-use native.Mathlib.Omega.{arith}
 use lib.ListN.{length, drop}
-use lib.Ieee.{Float, nan}
+use lib.Ieee.{Float}
 use Rattle.numbers.specs.Limits.{jobNumbers, sumLimbs}
-use Rattle.loops.specs.laws.Loop.{turns-ext}
-use Rattle.exact.specs.Exact.{none as noSum}
-use Rattle.spreads.specs.declared.Report.{Report}
+use Rattle.tally.specs.declared.Report.{Report}
 use Rattle.spreads.specs.declared.Spread.the-variants.{Done}
 use Rattle.loops.specs.Each.{each}
-use Rattle.loops.specs.laws.Each.{each-at, joined-at}
-use Rattle.spreads.specs.Runs.{sheetAt, Table, tableOf, tableAfter}
-use Rattle.single.specs.laws.Promises.{single-length, single-finite}
-use Rattle.spreads.specs.Refusals.{bytes}
+use Rattle.spreads.specs.Runs.{Table, tableOf, tableAfter}
 use Rattle.spreads.specs.laws.Refusals.{CallFine}
-use Rattle.spreads.specs.Tally.{numberIn, valueIn, howMany, nothing, reportStep, reportOver, sumStep, sumOf, Totals, totalsOf, totalsOver, Summable}
+use Rattle.tally.specs.Tally.{numberIn, valueIn, howMany, Totals, totalsOf, totalsOver, Summable}
+use Rattle.tally.specs.laws.Same.{counts-same, totals-same}
+use Rattle.spreads.specs.laws.Jobs.{number-back, value-back, value-sound}
 use Rattle.spreads.specs.Spreads.{resultsOf, Batch, lengths, jobIn, numberAt, valueAt, batchResultOf, doneOf, ranLeft}
-
--- counts of numbers that agree
-many-same : (f g : ℕ → ℕ) (k j : ℕ) → ((i : ℕ) → i < j → f i ≡ g i) → howMany f j k ≡ howMany g j k
-unfolding howMany
-many-same f g k zero h = refl
-many-same f g k (suc j) h = rw (h j (omega arith), many-same f g k j (λ i l. h i (omega arith)))
-
-each-same : {A : Type 0} (f g : ℕ → A) (n : ℕ) → ((i : ℕ) → f i ≡ g i) → each f n ≡ each g n
-each-same f g zero h = refl
-each-same f g (suc n) h = rw (each-same f g n h, h n)
 
 module _ (c : Batch) (v : List Float) (ns ps qs : List ℕ) (f : CallFine (c .options) (lengths c))
     (e : tableOf v ns ps qs ≡ tableAfter (jobIn c) (c .nodes + c .sources) (c .jobs) (c .lent .vectors) (c .lent .numbers) (c .lent .places) (c .lent .passes)) where
   abbrev n : ℕ
   n = c .nodes + c .sources
 
-  abbrev k : ℕ
-  k = bytes (lengths c)
+  number-same : (j : ℕ) → j < c .jobs → numberIn ns j ≡ numberAt (jobIn c) j
+  number-same j h = ap (λ (x : Table). numberIn (x .numbers) j) e ∙ number-back c j h
 
-  number-back : (j : ℕ) → j < c .jobs → numberIn ns j ≡ numberAt (jobIn c) j
-  number-back j h = rw (ap (λ (x : Table). x .numbers) e) (each-at (numberAt (jobIn c)) (c .jobs) j (drop (c .jobs) (c .lent .numbers)) 0 h)
-
-  value-back : (j : ℕ) → j < c .jobs → valueIn n (c .unknown) v j ≡ valueAt (c .unknown) (jobIn c) j
-  value-back j h =
-      rw (ap (λ (x : Table). x .vectors) e)
-      (joined-at (λ (i : ℕ). jobIn c i .vector) n (λ i. single-length (c .options) (c .nodes) (c .sources) (sheetAt k (c .sheets) i) (c .points)) (c .jobs) j (c .unknown) (drop (c .jobs * n) (c .lent .vectors)) nan h (f .jobs .inside))
+  value-same : (j : ℕ) → j < c .jobs → valueIn n (c .unknown) v j ≡ valueAt (c .unknown) (jobIn c) j
+  value-same j h = ap (λ (x : Table). valueIn n (c .unknown) (x .vectors) j) e ∙ value-back c (c .unknown) (f .jobs .inside) j h
 
   pub readable : length ns ≡ length (c .lent .numbers) → length v ≡ length (c .lent .vectors) → Summable (c .jobs) n (c .unknown) ns v
   readable hn hv =
@@ -52,7 +33,7 @@ module _ (c : Batch) (v : List Float) (ns ps qs : List ℕ) (f : CallFine (c .op
         inside = f .jobs .inside;
         «number-room» = rw hn (f .number-room);
         «vector-room» = rw hv (f .vector-room);
-        finites = λ j h q. rw (value-back j h) (single-finite (c .options) (c .nodes) (c .sources) (sheetAt k (c .sheets) j) (c .points) (c .unknown) (f .jobs .inside) (sym (number-back j h) ∙ q));
+        finites = λ j h q. rw (value-same j h) (value-sound c (c .unknown) (f .jobs .inside) j (sym (number-same j h) ∙ q) .1);
       }
 
   pub whole : (r : Report) (cs p m : List ℕ)
@@ -63,12 +44,9 @@ module _ (c : Batch) (v : List Float) (ns ps qs : List ℕ) (f : CallFine (c .op
       let job = jobIn c in
       let number = numberIn ns in
       let value = valueIn n (c .unknown) v in
-      let many : each (howMany number (c .jobs)) jobNumbers ≡ each (howMany (numberAt job) (c .jobs)) jobNumbers = each-same _ _ jobNumbers (λ i. many-same _ _ i (c .jobs) number-back) in
-      let told : reportOver number value (c .jobs) ≡ reportOver (numberAt job) (valueAt (c .unknown) job) (c .jobs)
-      = turns-ext (reportStep number value) (reportStep (numberAt job) (valueAt (c .unknown) job)) (c .jobs) nothing (λ i h x. rw (number-back i h, value-back i h)) in
-      let sum : sumOf number value (c .jobs) ≡ sumOf (numberAt job) (valueAt (c .unknown) job) (c .jobs)
-      = turns-ext (sumStep number value) (sumStep (numberAt job) (valueAt (c .unknown) job)) (c .jobs) noSum (λ i h x. rw (number-back i h, value-back i h)) in
-      let total : totalsOver number value (c .jobs) ≡ totalsOver (numberAt job) (valueAt (c .unknown) job) (c .jobs) = rw (told, sum) in
+      let many : each (howMany number (c .jobs)) jobNumbers ≡ each (howMany (numberAt job) (c .jobs)) jobNumbers = counts-same number (numberAt job) (c .jobs) jobNumbers number-same in
+      let total : totalsOver number value (c .jobs) ≡ totalsOver (numberAt job) (valueAt (c .unknown) job) (c .jobs)
+      = totals-same number (numberAt job) value (valueAt (c .unknown) job) (c .jobs) number-same value-same in
       let all = t ∙ total in
       let er = ap (λ (x : Totals). x .report) all in
       let ep = ap (λ (x : Totals). x .plus) all in

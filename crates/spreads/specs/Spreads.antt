@@ -11,13 +11,13 @@ use Rattle.loops.specs.Each.{each}
 use Rattle.options.specs.declared.Options.{Options}
 use Rattle.sheet.specs.Record.{recordBytes}
 use Rattle.single.specs.Single.{Single}
-use Rattle.spreads.specs.declared.Report.{Report}
+use Rattle.tally.specs.declared.Report.{Report}
 use Rattle.spreads.specs.declared.Spread.{Spread}
 use Rattle.spreads.specs.declared.Spread.the-variants.{Refused, Done}
 use Rattle.spreads.specs.declared.refusals.Lent.{Lent}
 use Rattle.spreads.specs.Runs.{jobAt, Table, tableAfter}
 use Rattle.spreads.specs.Refusals.{bytes, callRefusal}
-use Rattle.spreads.specs.Tally.{howMany, totalsOver}
+use Rattle.tally.specs.Tally.{howMany, totalsOver}
 
 -- ---- a call
 

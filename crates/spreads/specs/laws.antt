@@ -1,7 +1,7 @@
--- What holds of the runs, the refusals and the report, and of every call: read Promises.
+-- What holds of the runs and the refusals, and of every call: read Promises.
 pub mod Runs
 pub mod Refusals
-pub mod Tally
 pub mod Spreads
-pub mod Report
+pub mod Numbers
+pub mod Jobs
 pub mod Promises

@@ -3,22 +3,13 @@
 // specs/Spreads.antt, for all input.
 mod refusals; // refusals.rt: 13, then 1 to 5 for the whole call
 mod runs; // runs.rt: the jobs, one after the other
-mod tally; // tally.rt: the report
 
 ghost use mathlib.Core.Path.{_≡_};
 ghost use Rattle.spreads.specs.Spreads.{resultsOf, scratchOf, batchOf, lengths, batchResultOf, spreadsOf, ScratchKept};
 use numbers::limit::SUM_LIMBS;
 use options::Options;
 use refusals::Lent;
-
-// Over the settled jobs: how many, and the smallest and the largest of the chosen unknown with the job where it stands, the earliest on a tie. All 0 where none settled.
-pub struct Report {
-    pub settled: u64,
-    pub smallest: f64,
-    pub largest: f64,
-    pub smallest_at: u64,
-    pub largest_at: u64,
-}
+pub use tally::Report;
 
 // The number of a refusal, or the report.
 pub enum Spread {

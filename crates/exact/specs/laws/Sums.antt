@@ -1,4 +1,4 @@
--- The laws by which a caller follows a sum of many terms in two rows. Clients cite Factor, row-length, no-terms, exchanged, one-more, one-float, is-within.
+-- The laws by which a caller follows a sum of many terms in two rows. Clients cite Factor, row-length, no-terms, exchanged, not-cut, one-more, one-float, is-within.
 use mathlib.Core.Path.{_≡_, sym, ap, _∙_, subst}
 use mathlib.Core.Bool.{Bool, true, false, cond}
 use mathlib.Core.List.{List}
@@ -67,13 +67,17 @@ pub exchanged : (k : ℕ) (e : Exact) (p m : List ℕ) → Sums k e p m → Sums
 exchanged k e p m s = record { plus-row = s .minus-row; minus-row = s .plus-row; plus-few = s .minus-few; minus-few = s .plus-few }
 
 module _ (k : ℕ) (e : Exact) (p m : List ℕ) (s : Sums k e p m) where
+  -- at most 2 ^ 27 terms: nothing is cut off, and the rows stand for the sum itself
+  pub not-cut : k ≤ 2 ^ 27 → (value p ≡ e .plus) × (value m ≡ e .minus)
+  not-cut h = (held-is (e .plus) p (s .plus-row) (top k (e .plus) h (s .plus-few)), held-is (e .minus) m (s .minus-row) (top k (e .minus) h (s .minus-few)))
+
   -- fewer than 2 ^ 27 terms: one more is added
   pub one-more : (x y : Float) (r : Kept) (p′ m′ : List ℕ) → k < 2 ^ 27 → Factor x → Factor y
       → rowsOf r p′ m′ ≡ keptOf p m x y → Sums (k + 1) (added e (times x y)) p′ m′
   unfolding keptOf checkOf
   one-more x y r p′ m′ h X Y q =
-      let a : value p ≡ e .plus = held-is (e .plus) p (s .plus-row) (top k (e .plus) (omega arith) (s .plus-few)) in
-      let b : value m ≡ e .minus = held-is (e .minus) m (s .minus-row) (top k (e .minus) (omega arith) (s .minus-few)) in
+      let a : value p ≡ e .plus = not-cut (omega arith) .0 in
+      let b : value m ≡ e .minus = not-cut (omega arith) .1 in
       let c : value p < 2 ^ 4223 = subst (λ (n : ℕ). n < 2 ^ 4223) (sym a) (under k (e .plus) h (s .plus-few)) in
       let d : value m < 2 ^ 4223 = subst (λ (n : ℕ). n < 2 ^ 4223) (sym b) (under k (e .minus) h (s .minus-few)) in
       let f = cond-few (unlike (sign x) (sign y)) (units x * units y) (product-few x y X Y) in
@@ -96,4 +100,4 @@ module _ (k : ℕ) (e : Exact) (p m : List ℕ) (s : Sums k e p m) where
   pub is-within : (t : Float) → k ≤ 2 ^ 27 → T (finite t) → withinOf p m t ≡ within e t
   unfolding withinOf
   is-within t h f =
-      rw (eq-eqb (length p) 66 (row-length (e .plus) p (s .plus-row)), eq-eqb (length m) 66 (row-length (e .minus) m (s .minus-row)), is-true (finite t) f, held-is (e .plus) p (s .plus-row) (top k (e .plus) h (s .plus-few)), held-is (e .minus) m (s .minus-row) (top k (e .minus) h (s .minus-few)))
+      rw (eq-eqb (length p) 66 (row-length (e .plus) p (s .plus-row)), eq-eqb (length m) 66 (row-length (e .minus) m (s .minus-row)), is-true (finite t) f, not-cut h .0, not-cut h .1)

@@ -1,10 +1,11 @@
--- The units of a finite float that fits binary64, by the fields of its bit pattern: they are all of it, and few. Clients cite units-exact, units-few.
+-- The units of a finite float that fits binary64, by the fields of its bit pattern: they are all of it, and few; and those of 1.0. Clients cite units-exact, units-few, one-sign and one-units.
 use mathlib.Core.Path.{_≡_, refl, sym, ap, _∙_, subst}
 use mathlib.Core.Bool.{Bool, true, false, cond}
 use Prim.Native.Nat.{ℕ, zero, suc, _+_, _*_, _/_, _%_, _^_, _≤_, _<_}
 use native.Mathlib.Nat.{lt-of-not-le, le-of-lt, mod-lt, mul-div-cancel, mul-le-mul}
 use native.Mathlib.Omega.{arith}
 use lib.Dec.{T, leb, eqb, eqb→eq, not-T, lit<}
+use lib.Count.{trailingZeros}
 use lib.Pow.{shr-lt, pow-mono}
 use lib.Ieee.{Float, nan, inf, fin, binary64, fits, odd, ofFields, ofBits, toBits}
 use lib.Ieee.Bits.{ofBits-toBits, cond-no}
@@ -12,8 +13,21 @@ use lib.Ieee.Exact.{HasValue, odd-sign}
 use lib.Ieee.Scale.{finite}
 use lib.Ieee.Positive.{num, den, den-pos}
 use Rattle.num.specs.Floats.{sign}
+use Rattle.num.specs.Literals.{one}
 use Rattle.exact.specs.Exact.{units}
 use Rattle.exact.specs.Rows.{Small}
+
+-- ---- 1.0
+
+pub one-sign : sign one ≡ false
+unfolding ofBits ofFields odd trailingZeros
+one-sign = refl
+
+pub one-units : units one ≡ 2 ^ 1074
+unfolding units ofBits ofFields odd trailingZeros
+one-units = refl
+
+-- ---- any float
 
 pub small-size : (d p : ℕ) → Small d p → d * 2 ^ p ≤ 2 ^ 2098
 small-size d p s = mul-le-mul {n₂ = 2 ^ 53} {m₂ = 2 ^ 2045} (le-of-lt (s .few)) (pow-mono (s .low))

@@ -7,30 +7,20 @@ use native.Mathlib.Nat.{lt-of-lt-of-le, mul-pos, mul-assoc, one-mul}
 use native.Mathlib.Omega.{arith}
 use lib.Dec.{lit<}
 use lib.Pow.{pow-add, pow-pos, pow-mono, shl-lt}
-use lib.Count.{trailingZeros}
 use lib.ListN.{length}
-use lib.Ieee.{Float, binary64, unlike, round, toBits, ofBits, ofFields, odd}
+use lib.Ieee.{Float, binary64, unlike, round, toBits}
 use lib.Ieee.Exact.{HasValue, round-exact}
 use lib.Ieee.Fits.{round-fits}
 use lib.Ieee.Scale.{round-same}
 use Rattle.numbers.specs.Limits.{sumLimbs}
 use Rattle.exact.specs.Limbs.{value}
-use Rattle.num.specs.Literals.{one}
 use Rattle.num.specs.Floats.{sign}
 use Rattle.exact.specs.Exact.{units, whole}
-use Rattle.exact.specs.laws.Units.{Says, said-sign, said-units, subnormal, normal}
+use Rattle.exact.specs.laws.Units.{one-sign, one-units, Says, said-sign, said-units, subnormal, normal}
 use Rattle.exact.specs.laws.Sums.{Factor}
 use Rattle.mean.specs.Mean.{meanOf}
 use Rattle.mean.specs.laws.Mean.{mean-plus, mean-minus}
 use Rattle.exact.specs.laws.Bits.{same-float}
-
-one-sign : sign one ≡ false
-unfolding ofBits ofFields odd trailingZeros
-one-sign = refl
-
-one-units : units one ≡ 2 ^ 1074
-unfolding units ofBits ofFields odd trailingZeros
-one-units = refl
 
 -- a float's own units, rounded, are the float
 own : (x : Float) (s : Bool) (d p : ℕ) → Factor x → Says x s d p → round binary64 s (units x) (2 ^ 1074) ≡ x

@@ -15,21 +15,12 @@ use Rattle.checks.specs.Checks.{order, cells, checkedOf}
 use Rattle.steps.specs.Counters.{verdictOf}
 use Rattle.machine.specs.State.{Buffers, State}
 use Rattle.engine.specs.Work.{zeros}
+use Rattle.engine.specs.laws.Engine.{run-by-check}
 use Rattle.engine.specs.Engine.{Call, sizes, checkedCall, Result, resultOf, endingOf, refusedOf, lastOf, laid, unless, runOf, Scratched}
 use Rattle.single.specs.declared.Mark.{Mark}
 use Rattle.single.specs.Single.{markAs, markOf, dcCall, cleared, Marked, markedOf, markedRun, Single, singleOf, singleIn, fresh, alone, jobCall, single, jobSizes}
 
 -- ---- any call
-
--- a call as its check decides
-pub run-by-check : (c : Call) (P : Result → Type 0) → (checkedCall c ≡ Clean → P (resultOf (endingOf (lastOf c .counters)) (laid (sizes c) (lastOf c .buffers) (c .lent))))
-    → ((k i : ℕ) → checkedCall c ≡ Faulty k i → P (resultOf (refusedOf (Faulty k i)) (c .lent))) → P (runOf c)
-unfolding runOf
-run-by-check c P f g = go (checkedCall c) refl
-  where
-    go : (x : Checked) → checkedCall c ≡ x → P (unless x (resultOf (endingOf (lastOf c .counters)) (laid (sizes c) (lastOf c .buffers) (c .lent))) (resultOf (refusedOf x) (c .lent)))
-    go Clean e = f e
-    go (Faulty k i) e = g k i e
 
 -- what stood in the base and in the elimination matrix does not count
 any-scratch : (o : Options) (nodes sources : ℕ) (sheet points : List ℕ) (b b₁ s e e₁ v y : List Float) → length b₁ ≡ length b → length e₁ ≡ length e

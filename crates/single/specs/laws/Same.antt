@@ -11,13 +11,14 @@ use Rattle.num.specs.Floats.{nought}
 use Rattle.options.specs.declared.Options.{Options}
 use Rattle.sheet.specs.Record.{recordBytes}
 use Rattle.sheet.specs.declared.Checked.the-variants.{Clean}
-use Rattle.checks.specs.Checks.{order, cells, sizesRefusal, checkedOf}
+use Rattle.checks.specs.Checks.{sizesRefusal}
 use Rattle.engine.specs.Work.{zeros}
 use Rattle.engine.specs.Engine.{Call, sizes, checkedCall, Result, endingOf, refusedOf, lastOf, runOf}
 use Rattle.engine.specs.laws.Promises.{rows-stand}
-use Rattle.single.specs.Single.{markOf, Single, dcCall, fresh, jobCall, single, jobSizes}
-use Rattle.single.specs.laws.Alone.{run-by-check, last, alone-ran, alone-refused}
-use Rattle.single.specs.laws.System.{last-system}
+use Rattle.single.specs.Single.{markOf, dcCall, fresh, jobCall, single, jobSizes}
+use Rattle.single.specs.laws.Alone.{last, alone-ran, alone-refused}
+use Rattle.engine.specs.laws.Engine.{run-by-check}
+use Rattle.engine.specs.laws.Lengths.{last-held}
 use Rattle.single.specs.laws.Promises.{none-refused, check-only, job-check}
 
 -- x with nothing behind it, and with anything
@@ -63,4 +64,4 @@ module _ (o : Options) (nodes sources : ℕ) (sheet points : List ℕ) (b s e v 
   unfolding single runOf
   same-system q =
       rw (q, alone-ran job (same-check ∙ q), same-last)
-      (front-same (last job .buffers .system) ((nodes + sources) * (nodes + sources + 1)) s (last-system (fresh job)))
+      (front-same (last job .buffers .system) ((nodes + sources) * (nodes + sources + 1)) s (last-held (fresh job) .system))

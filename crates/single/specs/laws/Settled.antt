@@ -1,9 +1,9 @@
 -- A settled DC run has a finite vector: the last pass that says "yes" has looked at every unknown, and no later pass writes. Clients cite AllFinite and alone-finite. Assumes nothing.
-use Prim.Native.Nat.{ℕ, zero, suc, _+_, _<_, _≤_}
+use Prim.Native.Nat.{ℕ, zero, suc, _<_, _≤_}
 use mathlib.Core.Path.{_≡_, refl, sym, ap, subst}
 use mathlib.Core.Bool.{Bool, true, false, cond, false≢true}
 use mathlib.Core.Logic.{_⊎_, inl, inr, ⊎-elim}
-use mathlib.Core.List.{List, []}
+use mathlib.Core.List.{List}
 use native.Mathlib.Omega.{arith}
 use borrow.Author.Tests.{eq-eqb}
 use lib.Count.{trailingZeros}
@@ -70,23 +70,16 @@ module _ (x y : List Float) (nodes : ℕ) (o : Options) where
 
 -- ---- the pass that reports it
 
-abbrev reportNumber : Report → ℕ
-reportNumber Yes = 0
-reportNumber No = 1
-reportNumber Error = 2
-reportNumber Diode = 3
-reportNumber Sine = 4
-
 yes-check : (c : Convergence) → reportOf c ≡ Yes → c ≡ check.Yes
 yes-check check.Yes e = refl
-yes-check check.No e = absurd (let z : _≡_ {A = ℕ} 1 0 = ap reportNumber e in omega arith)
-yes-check check.Error e = absurd (let z : _≡_ {A = ℕ} 2 0 = ap reportNumber e in omega arith)
-yes-check check.Refused e = absurd (let z : _≡_ {A = ℕ} 2 0 = ap reportNumber e in omega arith)
+yes-check check.No e = absurd (let z : _≡_ {A = ℕ} 0 1 = cc in omega arith)
+yes-check check.Error e = absurd (let z : _≡_ {A = ℕ} 0 1 = cc in omega arith)
+yes-check check.Refused e = absurd (let z : _≡_ {A = ℕ} 0 1 = cc in omega arith)
 
 yes-reported : (a b : Bool) (r : Report) → cond a r (cond b Diode Sine) ≡ Yes → r ≡ Yes
 yes-reported true b r e = e
-yes-reported false true r e = absurd (let z : _≡_ {A = ℕ} 3 0 = ap reportNumber e in omega arith)
-yes-reported false false r e = absurd (let z : _≡_ {A = ℕ} 4 0 = ap reportNumber e in omega arith)
+yes-reported false true r e = absurd (let z : _≡_ {A = ℕ} 0 1 = cc in omega arith)
+yes-reported false false r e = absurd (let z : _≡_ {A = ℕ} 0 1 = cc in omega arith)
 
 module _ (f : Attempt) (j : Job) (s : State) where
   tried-finite : triedBy f j s .report ≡ Yes → AllFinite (triedBy f j s .vector)

@@ -8,6 +8,7 @@ use lib.ListN.{drop}
 use lib.Seq.{length-take-le, drop-at}
 use Rattle.sheet.specs.Record.{recordBytes}
 use Rattle.spreads.specs.Refusals.{bytes, callRefusal}
+use Rattle.tally.specs.laws.Ready.{counts-made, totals-made}
 use Rattle.spreads.specs.laws.Refusals.{CallFine, call-fine}
 use Rattle.spreads.specs.Spreads.{resultsOf, scratchOf, Batch, batchOf, lengths, batchRefusal, matrixCells}
 use Rattle.spreads.specs.laws.Spreads.{call-refused, call-done}
@@ -81,10 +82,6 @@ run-jobs-requires c κs = let k = ok (c .before .before .before .before .before 
   record { bases = length-take-le _ _ (k .one .base-room); systems = length-take-le _ _ (k .one .system-room); works = length-take-le _ _ (k .one .elimination-room); memories = length-take-le _ _ (k .one .memory-room) },
 )
 
-count-all-requires : tie.Need-count-all-requires
-count-all-requires c κs = let k = ok (c .before .before .before .before .before .before .before .before .before .before .before .before .before .before .before .before .before .before .before .before .before .before .before .before .before .before .before .before .before) in
-    (omega (arith, k .number-room, c .before .before .before .before .before .before .before .before .before .before .before .before .before .before .before .before .before .before .run-jobs .kept .1 .1 .1 .1 .1 .1 .1 .1 .1 .1 .1 .1 .0), k .count-room)
-
 slice-relend-prefix-sum-up : tie.Need-slice-relend-prefix-sum-up
 slice-relend-prefix-sum-up c = ok (c .before .before .before .before .before .before .before .before .before .before .before .before .before .before .before .before .before .before .before .before .before .before .before .before .before .before .before .before .before .before .before .before .before .before) .plus-room
 
@@ -97,16 +94,6 @@ slice-relend-prefix-sum-up-2 c = ok (c .before .before .before .before .before .
 slice-aggregate-sum-up-2 : tie.Need-slice-aggregate-sum-up-2
 slice-aggregate-sum-up-2 c = sym (length-take-le 66 (Begin (c .before .before .before .before .before .before .before .before .before .before .before .before .before .before .before .before .before .before .before .before .before .before .before .before .before .before .before .before .before .before .before .before .before .before .before .before) .args .minus .now) (ok (c .before .before .before .before .before .before .before .before .before .before .before .before .before .before .before .before .before .before .before .before .before .before .before .before .before .before .before .before .before .before .before .before .before .before .before .before) .minus-room))
 
-sum-up-requires : tie.Need-sum-up-requires
-sum-up-requires c κs = let e = c .before .before .before .before .before .before .before .before .before .before .before .before .before .before .before .before .before .before .before .before .before .before .before .before .before .before .before .before .before .before .before .before .before .before .before .before in
-    let k = ok e in
-    let a = Begin e .args in
-    let x = c .before .before .before .before .before .before .before .before .before .before .before .before .before .before .before .before .before .before .before .before .before .before .before .before .before .run-jobs in (
-      readable (B (Begin e)) _ _ _ _ k (x .ensures) (x .kept .1 .1 .1 .1 .1 .1 .1 .1 .1 .1 .1 .1 .0) (x .kept .1 .1 .1 .1 .1 .1 .1 .1 .1 .1 .1 .0),
-      length-take-le 66 (a .plus .now) (k .plus-room),
-      length-take-le 66 (a .minus .now) (k .minus-room),
-    )
-
 returns-2 : tie.Need-returns-2
 returns-2 c = let e = c .before .before .before .before .before .before .before .before .before .before .before .before .before .before .before .before .before .before .before .before .before .before .before .before .before .before .before .before .before .before .before .before .before .before .before .before .before .before .before .before .before in
     let s = Begin e in
@@ -115,7 +102,9 @@ returns-2 c = let e = c .before .before .before .before .before .before .before 
     let x = c .before .before .before .before .before .before .before .before .before .before .before .before .before .before .before .before .before .before .before .before .before .before .before .before .before .before .before .before .before .before .run-jobs in
     let n = matrixCells (a .z .nodes + a .z .sources) in
     let r = bytes (lengths (B s)) / recordBytes in (
-      whole (B s) _ _ _ _ k (x .ensures) _ _ _ _ (c .before .before .before .before .before .before .before .before .before .before .before .count-all .ensures) (c .before .before .before .before .sum-up .ensures)
+      whole (B s) _ _ _ _ k (x .ensures) _ _ _ _
+          (c .before .before .before .before .before .before .before .before .before .before .before .count-all .ensures ∙ counts-made _ _ _ (omega (arith, k .number-room, x .kept .1 .1 .1 .1 .1 .1 .1 .1 .1 .1 .1 .1 .0)) (k .count-room))
+          (c .before .before .before .before .sum-up .ensures ∙ totals-made _ _ _ _ _ _ _ (readable (B s) _ _ _ _ k (x .ensures) (x .kept .1 .1 .1 .1 .1 .1 .1 .1 .1 .1 .1 .1 .0) (x .kept .1 .1 .1 .1 .1 .1 .1 .1 .1 .1 .1 .0)) (length-take-le 66 (a .plus .now) (k .plus-room)) (length-take-le 66 (a .minus .now) (k .minus-room)))
           ∙ sym (call-done (B s) (none e)),
       record {
         base = drop-at (x .last .1 .1 .1 .1 .1 .1 .1 .0) (drop n (a .base .now)) n (x .kept .1 .1 .1 .1 .1 .1 .1 .0 ∙ length-take-le _ _ (k .one .base-room));
@@ -145,12 +134,12 @@ answer-spec =
     slice-relend-prefix-run-jobs-4
     slice-aggregate-run-jobs-4
     run-jobs-requires
-    count-all-requires
+    (λ c κs. search needs)
     slice-relend-prefix-sum-up
     slice-aggregate-sum-up
     slice-relend-prefix-sum-up-2
     slice-aggregate-sum-up-2
-    sum-up-requires
+    (λ c κs. search needs)
     (λ c. search needs)
     (λ c. search needs)
     (λ c. search needs)

@@ -1,16 +1,20 @@
--- What holds of a call that is not refused. Clients cite below-nodes, past-nodes, Chosen, chosen, CallFine and call-fine. Assumes nothing.
-use Prim.Native.Nat.{ℕ, _+_, _-_, _*_, _/_, _%_, _≤_, _<_}
+-- What holds of a call that is not refused, that nothing else is refused, and which refusals there are. Clients cite below-nodes, past-nodes, Chosen, chosen, CallFine, call-fine, one-none, fine-none, jobs-refused, uneven-refused, RefusedBy and refused-by. Assumes nothing.
+use Prim.Native.Nat.{ℕ, _+_, _-_, _*_, _%_, _≤_, _<_}
 use mathlib.Core.Path.{_≡_, refl, sym, _∙_}
-use mathlib.Core.Bool.{Bool, true, false, cond, not, _||_}
+use mathlib.Core.Bool.{Bool, true, false, cond, _||_}
+use mathlib.Core.Logic.{_⊎_, inl, inr}
 use mathlib.Mathlib.Data.Bool.Basic.{or-eq-false-eq-eq-false-and-eq-false as neither}
 use lib.Dec.{eqb, ltb, leb}
-use borrow.Author.Tests.{eqb-true, eqb-false, ltb-false, leb-true, leb-false, lt-leb, not-false}
+use borrow.Author.Tests.{eqb-true, eqb-false, ne-eqb, ltb-false, le-ltb, leb-true, leb-false, lt-leb, not-false}
 use native.Mathlib.Nat.{mod-add-div, zero-add}
 use native.Mathlib.Omega.{arith}
 use Rattle.numbers.specs.Limits.{mostJobs, jobNumbers, sumLimbs}
+use Rattle.numbers.specs.Refusals.{byOrder, bySheet, byRoom, byJobs}
 use Rattle.options.specs.declared.Options.{Options}
+use Rattle.checks.specs.declared.Sizes.{Sizes}
 use Rattle.checks.specs.Checks.{badOrder, sizesRefusal}
 use Rattle.checks.specs.laws.Checks.{Fine, fine, cond-none}
+use Rattle.checks.specs.laws.Table.{fine-none as sizes-none, sizes-most}
 use Rattle.spreads.specs.declared.refusals.Lent.{Lent}
 use Rattle.spreads.specs.Refusals.{order, bytes, badJobs, uneven, oneJob, shortLists, shortSums, shortResults, callRefusal}
 
@@ -45,11 +49,10 @@ chosen jobs unknown nodes sources e =
       inside = leb-false _ _ (a .1);
     }
 
--- what holds where nothing of 13 and 1 to 5 is refused
+-- none of the conditions of 13 and 1 to 5 holds: 13's; the sheets are of one length; one job of them meets none of 1 to 5; and every result has its room
 pub record CallFine (o : Options) (z : Lent) : Type 0 where
   pub jobs : Chosen (z .jobs) (z .unknown) (order z)
   pub even : z .jobs * bytes z ≡ z .sheets
-  pub none : sizesRefusal o (oneJob z) ≡ 0
   pub one : Fine o (oneJob z)
   pub «vector-room» : z .jobs * order z ≤ z .vectors
   pub «number-room» : z .jobs ≤ z .numbers
@@ -84,7 +87,6 @@ call-fine o z e =
     record {
       jobs = chosen _ _ _ _ (r13 .0);
       even = sym (zero-add (z .jobs * bytes z)) ∙ (rw m at (mod-add-div (z .sheets) (z .jobs)));
-      none = r5 .0;
       one = fine o (oneJob z) (r5 .0);
       «vector-room» = ltb-false _ _ (v .0);
       «number-room» = ltb-false _ _ (n .0);
@@ -94,3 +96,82 @@ call-fine o z e =
       «plus-room» = ltb-false _ _ (p .1);
       «minus-room» = ltb-false _ _ (s .1);
     }
+
+-- ---- and nothing else is refused
+
+fine-jobs : (jobs unknown nodes sources : ℕ) → Chosen jobs unknown (nodes + sources) → badJobs jobs unknown nodes sources ≡ false
+unfolding badJobs
+fine-jobs jobs unknown nodes sources h =
+    let some : jobs ≡ 0 → ⊥ = λ e. omega (arith, h .some) in
+    rw (ne-eqb jobs 0 some, le-ltb 256 jobs (h .few), lt-leb (nodes + sources) unknown (h .inside))
+
+fine-order : (o : Options) (z : Sizes) → sizesRefusal o z ≡ 0 → badOrder (z .nodes) (z .sources) ≡ false
+unfolding sizesRefusal
+fine-order o z e = cond-none (badOrder (z .nodes) (z .sources)) 0 _ e .0
+
+fine-even : (z : Lent) → z .jobs * bytes z ≡ z .sheets → uneven z ≡ false
+fine-even z e =
+    let m : z .sheets % z .jobs ≡ 0 = go (z .sheets % z .jobs) (z .jobs * bytes z) (z .sheets) (mod-add-div (z .sheets) (z .jobs)) e in
+    rw m
+  where
+    go : (a b s : ℕ) → a + b ≡ s → b ≡ s → a ≡ 0
+    go a b s p q = omega arith
+
+-- one job of it meets none of 1 to 5
+pub one-none : (o : Options) (z : Lent) → CallFine o z → sizesRefusal o (oneJob z) ≡ 0
+one-none o z f = sizes-none o (oneJob z) (f .one)
+
+-- a call that meets none of the conditions of 13 and 1 to 5
+pub fine-none : (o : Options) (z : Lent) → CallFine o z → callRefusal o z ≡ 0
+unfolding callRefusal shortResults
+fine-none o z f =
+    rw (
+      fine-jobs (z .jobs) (z .unknown) (z .nodes) (z .sources) (f .jobs),
+      fine-order o (oneJob z) (one-none o z f),
+      fine-even z (f .even),
+      one-none o z f,
+      le-ltb (z .vectors) (z .jobs * order z) (f .vector-room),
+      le-ltb (z .numbers) (z .jobs) (f .number-room),
+      le-ltb (z .places) (z .jobs) (f .place-room),
+      le-ltb (z .passes) (z .jobs) (f .pass-room),
+      le-ltb (z .counts) 27 (f .count-room),
+      le-ltb (z .plus) 66 (f .plus-room),
+      le-ltb (z .minus) 66 (f .minus-room),
+    )
+
+-- ---- the refusals of a call
+
+-- 13 is "checked first"
+pub jobs-refused : (o : Options) (z : Lent) → (Chosen (z .jobs) (z .unknown) (order z) → ⊥) → callRefusal o z ≡ byJobs
+unfolding callRefusal
+jobs-refused o z h = go (badJobs (z .jobs) (z .unknown) (z .nodes) (z .sources)) refl _
+  where
+    go : (b : Bool) → badJobs (z .jobs) (z .unknown) (z .nodes) (z .sources) ≡ b → (k : ℕ) → cond b 13 k ≡ byJobs
+    go true e k = refl
+    go false e k = absurd (h (chosen (z .jobs) (z .unknown) (z .nodes) (z .sources) e))
+
+-- "2 for uneven sheets too": past 13 and 1 they are refused whatever else is wrong
+pub uneven-refused : (o : Options) (z : Lent) → Chosen (z .jobs) (z .unknown) (order z) → badOrder (z .nodes) (z .sources) ≡ false → (z .jobs * bytes z ≡ z .sheets → ⊥) → callRefusal o z ≡ bySheet
+unfolding callRefusal
+uneven-refused o z f e h =
+    let m : z .sheets % z .jobs ≡ 0 → ⊥ = λ q. h (sym (zero-add (z .jobs * bytes z)) ∙ (rw q at (mod-add-div (z .sheets) (z .jobs)))) in
+    rw (fine-jobs (z .jobs) (z .unknown) (z .nodes) (z .sources) f, e, ne-eqb (z .sheets % z .jobs) 0 m)
+
+-- 13, or 1 to 5
+abbrev pub RefusedBy : ℕ → Type 0
+RefusedBy k = (k ≡ byJobs) ⊎ ((byOrder ≤ k) × (k ≤ byRoom))
+
+pub refused-by : (o : Options) (z : Lent) → (callRefusal o z ≡ 0 → ⊥) → RefusedBy (callRefusal o z)
+unfolding callRefusal
+refused-by o z =
+    go (badJobs (z .jobs) (z .unknown) (z .nodes) (z .sources)) (badOrder (z .nodes) (z .sources)) (uneven z) (eqb (sizesRefusal o (oneJob z)) 0) (shortResults z)
+    (sizesRefusal o (oneJob z)) (sizes-most o (oneJob z))
+  where
+    go : (r₁₃ r₁ r₂ none r₅ : Bool) (k : ℕ) → k ≤ byRoom → (cond r₁₃ 13 (cond r₁ 1 (cond r₂ 2 (cond none (cond r₅ 5 0) k))) ≡ 0 → ⊥)
+        → RefusedBy (cond r₁₃ 13 (cond r₁ 1 (cond r₂ 2 (cond none (cond r₅ 5 0) k))))
+    go true r₁ r₂ none r₅ k m h = inl refl
+    go false true r₂ none r₅ k m h = inr (omega arith, omega arith)
+    go false false true none r₅ k m h = inr (omega arith, omega arith)
+    go false false false true true k m h = inr (omega arith, omega arith)
+    go false false false true false k m h = absurd (h refl)
+    go false false false false r₅ k m h = inr (omega (arith, h), m)
