@@ -86,7 +86,7 @@ pub fn capacitor(value: f64, v: f64, step: f64) -> Option<(f64, f64)> {
     Some((a.g, a.i))
 }
 
-/// Verdict, then conductance, current and memory where it is 0.
+/// Verdict, then conductance, current and memory.
 pub fn diode(i_sat: f64, tdegc: f64, v: f64, memory: f64, o: &Options) -> Option<(u64, [f64; 3])> {
     let a = unsafe { savrunte_diode(i_sat, tdegc, v, memory, *o) };
     Some((a.verdict, [a.g, a.i, a.memory]))

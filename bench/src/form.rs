@@ -2,7 +2,7 @@
 //! so that later words can follow: one that is not there counts as 0.
 
 use crate::job::*;
-use crate::spread_calls::Call;
+use crate::spread_calls::{Call, Report, MEMORY as CALL_MEMORY, VECTORS};
 use std::convert::TryInto;
 
 #[derive(Clone, Copy, Debug, PartialEq)]
@@ -32,6 +32,7 @@ const MOST_HEAD: usize = 64;
 const JOBS: [&[u8; 8]; 2] = [b"SAVJOBS1", b"SAVJOBS2"];
 const ANSWERS: [&[u8; 8]; 2] = [b"SAVANSW1", b"SAVANSW2"];
 const SPREADS: [&[u8; 8]; 2] = [b"SAVSPRD1", b"SAVSPRD2"];
+const CALLS: [&[u8; 8]; 2] = [b"SAVCALL1", b"SAVCALL2"];
 
 /// The form that a file's first word names, out of the two magics.
 fn form_of(b: &[u8], magics: [&[u8; 8]; 2]) -> Option<Form> {
@@ -217,6 +218,44 @@ impl Call {
         call.fit();
         Some(call)
     }
+
+    /// The bytes of a file of spreads: numbers, sheets and points.
+    pub fn bytes(&self, form: Form) -> Vec<u8> {
+        let mut w = vec![u64::from_le_bytes(*SPREADS[form as usize]), self.jobs as u64, self.nodes, self.sources];
+        w.extend_from_slice(&self.options.words()[..OPTIONS_1]);
+        w.extend_from_slice(&[self.sheets.len() as u64, self.points.len() as u64, self.unknown]);
+        w.extend(later(&self.options, form));
+        let mut out = laid(form, w);
+        padded(&mut out, &self.sheets);
+        padded(&mut out, &self.points);
+        out
+    }
+}
+
+impl Report {
+    /// The report's bytes: size first, what the call lent, the answer's numbers, then how much of each buffer is scratch or
+    /// written, and what is written. A refused call writes nothing.
+    pub fn bytes(&self, call: &Call, form: Form) -> Vec<u8> {
+        let a = &self.answer;
+        let (floats, words) = if a.refusal != 0 { ([0; 5], [0; 6]) } else { call.needed() };
+        let mut w: Vec<u64> = vec![0];
+        w.extend(call.floats.iter().chain(&call.words).map(|l| *l as u64));
+        w.extend([a.refusal, a.settled, plain(a.smallest), plain(a.largest), a.smallest_at, a.largest_at]);
+        // the three matrices are scratch alike
+        w.extend([floats[0], floats[CALL_MEMORY], floats[VECTORS]].iter().chain(&words).map(|l| *l as u64));
+        let mut out = laid(form, w);
+        out.extend(self.floats[VECTORS][..floats[VECTORS]].iter().flat_map(|x| plain(*x).to_le_bytes()));
+        for (length, buffer) in words.iter().zip(&self.words) {
+            out.extend(buffer[..*length].iter().flat_map(|x| x.to_le_bytes()));
+        }
+        sized(out)
+    }
+}
+
+/// A file of calls of spreads, each followed by its report: magic, number of calls, largest call and largest report in bytes.
+pub fn calls_file(form: Form, list: &[(Call, Report)]) -> Vec<u8> {
+    let parts = list.iter().map(|(call, report)| (call.bytes(form), report.bytes(call, form))).collect();
+    file_of(CALLS[form as usize], parts)
 }
 
 /// A file of jobs: magic, number of jobs, largest job and largest answer in bytes, then each job, with its answer where there
@@ -227,15 +266,19 @@ pub fn file(form: Form, list: &[(Job, Option<Answer>)]) -> Vec<u8> {
     let bytes = |(job, answer): &(Job, Option<Answer>)| {
         (job.bytes(form), answer.as_ref().map_or(Vec::new(), |a| a.bytes(job, form)))
     };
-    let parts: Vec<(Vec<u8>, Vec<u8>)> = list.iter().map(bytes).collect();
+    file_of(magics[form as usize], list.iter().map(bytes).collect())
+}
+
+/// A file's head and its parts in turn.
+fn file_of(magic: &[u8; 8], parts: Vec<(Vec<u8>, Vec<u8>)>) -> Vec<u8> {
     let largest = |of: fn(&(Vec<u8>, Vec<u8>)) -> usize| parts.iter().map(of).max().unwrap_or(0);
-    let mut out = magics[form as usize].to_vec();
+    let mut out = magic.to_vec();
     for x in [parts.len(), largest(|p| p.0.len()), largest(|p| p.1.len())] {
         out.extend_from_slice(&(x as u64).to_le_bytes());
     }
-    for (job, answer) in parts {
-        out.extend_from_slice(&job);
-        out.extend_from_slice(&answer);
+    for (first, second) in parts {
+        out.extend_from_slice(&first);
+        out.extend_from_slice(&second);
     }
     out
 }
@@ -420,33 +463,21 @@ mod tests {
         }
     }
 
-    /// A file of spreads, which the bench reads only.
-    fn spreads(call: &Call, form: Form) -> Vec<u8> {
-        let mut w = vec![u64::from_le_bytes(*SPREADS[form as usize]), call.jobs as u64, call.nodes, call.sources];
-        w.extend_from_slice(&call.options.words()[..OPTIONS_1]);
-        w.extend_from_slice(&[call.sheets.len() as u64, call.points.len() as u64, call.unknown]);
-        w.extend(later(&call.options, form));
-        let mut out = laid(form, w);
-        padded(&mut out, &call.sheets);
-        padded(&mut out, &call.points);
-        out
-    }
-
     #[test]
     fn spreads_of_both_forms() {
         for call in (0..40).map(|place| spread_calls::call(7, place)).filter(|c| c.jobs < 1000 && c.unknowns() < 100) {
-            let (one, two) = (spreads(&call, Form::One), spreads(&call, Form::Two));
+            let (one, two) = (call.bytes(Form::One), call.bytes(Form::Two));
             for bytes in [&one, &two] {
                 let read = Call::read(bytes).unwrap();
                 assert_eq!((&read.sheets, &read.points), (&call.sheets, &call.points));
-                assert_eq!(spreads(&read, Form::One), one);
+                assert_eq!(read.bytes(Form::One), one);
                 assert!(Call::read(&bytes[..100]).is_none());
                 assert!(Call::read(&with_word(bytes, 0, 0)).is_none());
             }
             for count in [0, 1, 65, u64::MAX] {
                 assert!(Call::read(&with_word(&two, 1, count)).is_none());
             }
-            assert_eq!(spreads(&Call::read(&regrown(&two, 64, 0)).unwrap(), Form::One), one);
+            assert_eq!(Call::read(&regrown(&two, 64, 0)).unwrap().bytes(Form::One), one);
             assert!(Call::read(&regrown(&two, SPREADS_KNOWN + 2, 1)).is_none());
             assert_eq!(Call::read(&regrown(&two, 24, 0)).unwrap().unknown, 0);
         }

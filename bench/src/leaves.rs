@@ -279,13 +279,16 @@ fn diode(r: &mut Random) -> Trial {
         4 => memory + vt,
         _ => memory + vt * r.between(-900.0, 900.0) * r.unit(),
     };
-    let flat = |x: Option<(f64, f64, f64)>| x.map_or(vec![22.0], |(g, i, m)| vec![0.0, g, i, m]);
-    let a = flat(model::diode(i_sat, tdegc, v, memory, &o, &OURS, Wrong::Nothing));
+    // with 22 there is no model, and the memory stays the one handed in
+    let flat = |x: Result<(f64, f64, f64), f64>| match x {
+        Ok((g, i, m)) => vec![0.0, g, i, m],
+        Err(kept) => vec![22.0, 0.0, 0.0, kept],
+    };
+    let a = flat(model::diode(i_sat, tdegc, v, memory, &o, &OURS, Wrong::Nothing).ok_or(memory));
     let b = flat(hooked::diode(i_sat, tdegc, v, memory, &o, &OURS));
-    let sort = if a.len() == 1 { "verdict 22" } else { "linearized" };
+    let sort = if a[0] == 22.0 { "verdict 22" } else { "linearized" };
     let mut answers = vec![("model", a), ("Rust", b)];
-    let numbers =
-        |(verdict, [g, i, m]): (u64, [f64; 3])| if verdict == 0 { vec![0.0, g, i, m] } else { vec![verdict as f64] };
+    let numbers = |(verdict, [g, i, m]): (u64, [f64; 3])| vec![verdict as f64, g, i, m];
     answers.extend(door::diode(i_sat, tdegc, v, memory, &o).map(|d| ("shipped", numbers(d))));
     Trial {
         input: format!(

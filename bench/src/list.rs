@@ -36,7 +36,7 @@ fn quota(job: &Job, answer: &Answer) -> (String, u64) {
 }
 
 /// The oracle's answer: the Rust's own where it has one, else the model's; they must agree.
-fn answer(job: &Job) -> Answer {
+pub fn answer(job: &Job) -> Answer {
     let answer = model::run(job, &OURS, Wrong::Nothing);
     if answer.refusal != 0 {
         return answer;
@@ -95,10 +95,35 @@ pub fn write(seed: u64, path: &str, form: Form) -> u64 {
         }
     }
     let bytes = file(form, &list);
-    std::fs::write(path, &bytes).expect("the list cannot be written");
-    println!("{}: {} jobs, {} bytes, seed {}", path, list.len(), bytes.len(), seed);
+    println!("{}: {} jobs, {} bytes, seed {}; {}", path, list.len(), bytes.len(), seed, stored(path, &bytes));
     println!("  {}", outcomes.line());
     println!("  {}", classes.line());
+    0
+}
+
+/// Writes a file, and says whether it was there before with these very bytes.
+pub fn stored(path: &str, bytes: &[u8]) -> &'static str {
+    let before = std::fs::read(path);
+    std::fs::write(path, bytes).expect("the list cannot be written");
+    match before {
+        Ok(b) if b == bytes => "as it was stored, to the byte",
+        Ok(_) => "NOT as it was stored",
+        Err(_) => "not stored before",
+    }
+}
+
+/// Writes the jobs at the end of the budget.
+pub fn write_budgets(path: &str) -> u64 {
+    let answered = |d: directed::Directed| {
+        let a = answer(&d.job);
+        (d.job, Some(a))
+    };
+    let list: Vec<(Job, Option<Answer>)> = directed::budgets().into_iter().map(answered).collect();
+    let bytes = file(Form::Two, &list);
+    println!("{}: {} jobs, {} bytes; {}", path, list.len(), bytes.len(), stored(path, &bytes));
+    for (_, a) in &list {
+        println!("  {}", a.as_ref().map_or(String::new(), |a| format!("{}, {} passes", a.outcome(), a.passes)));
+    }
     0
 }
 

@@ -25,6 +25,7 @@ mod shrink;
 mod sides;
 mod speed;
 mod spread_calls;
+mod spread_list;
 mod spread_rules;
 mod spreads;
 mod spreads_speed;
@@ -49,8 +50,8 @@ fn conclude(differences: u64) -> u64 {
 }
 
 const USAGE: &str = "usage: bench run SEED COUNT FOLDER | directed | show | leaves SEED COUNT | jobs SEED COUNT FOLDER
-    | job SEED PLACE | find READING SEED COUNT | list SEED FILE [FORM] | replay FILE | speed | time [ROW [FILE]]
-    | spreads SEED CALLS | spread SEED PLACE | spreads-speed FOLDER FILE";
+    | job SEED PLACE | find READING SEED COUNT | list SEED FILE [FORM] | list-budget FILE | list-spreads SEED FILE
+    | replay FILE | speed | time [ROW [FILE]] | spreads SEED CALLS | spread SEED PLACE | spreads-speed FOLDER FILE";
 
 fn main() {
     quiet_panics();
@@ -77,6 +78,8 @@ fn main() {
                 1
             }
         },
+        "list-budget" => list::write_budgets(text(1, "answers3.bin")),
+        "list-spreads" => spread_list::write(seed(), text(2, "spreads.bin")),
         "replay" => list::replay(text(1, "answers.bin")),
         "speed" => speed::run(),
         "time" => speed::time(args.get(1).map(|_| number(1, 0) as usize), text(2, "-")),

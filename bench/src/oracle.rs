@@ -121,14 +121,21 @@ pub mod hooked {
         }
     }
 
-    /// Conductance, current and new memory; None where the Rust panics.
-    pub fn diode(i_sat: f64, tdegc: f64, v: f64, memory: f64, o: &Options, f: &Functions) -> Option<(f64, f64, f64)> {
+    /// Conductance, current and new memory; the memory alone where the Rust panics.
+    pub fn diode(
+        i_sat: f64,
+        tdegc: f64,
+        v: f64,
+        memory: f64,
+        o: &Options,
+        f: &Functions,
+    ) -> Result<(f64, f64, f64), f64> {
         recorder::begin(record(o, f));
         let d = Diode::new("", 0, 0, i_sat, tdegc);
         d.set_memory(memory);
         let r = std::panic::catch_unwind(std::panic::AssertUnwindSafe(|| d.linearize(v, 0.0)));
         recorder::end();
-        r.ok().map(|(g, i)| (g, i, d.memory()))
+        r.map(|(g, i)| (g, i, d.memory())).map_err(|_| d.memory())
     }
 
     /// A sine source's value; None where the sine is refused.

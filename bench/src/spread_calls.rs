@@ -20,7 +20,7 @@ const GUARD: usize = 4;
 /// The lent floats, then the lent words, in the order of the C door.
 pub const FLOATS: [&str; 5] = ["base", "system", "elimination", "memory", "vectors"];
 pub const WORDS: [&str; 6] = ["numbers", "places", "passes", "counts", "plus", "minus"];
-const MEMORY: usize = 3;
+pub const MEMORY: usize = 3;
 pub const VECTORS: usize = 4;
 pub const COUNTS: usize = 3;
 pub const PLUS: usize = 4;

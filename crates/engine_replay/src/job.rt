@@ -151,7 +151,7 @@ fn number_found(n: Numbers, a: Answer) -> Found {
     if n.rows != a.rows {
         return Found::Rows;
     }
-    if !buffers::same(n.end, a.end) {
+    if !jobs::same(n.end, a.end) {
         return Found::End;
     }
     Found::Nothing
@@ -172,26 +172,26 @@ fn buffer_found(
     let s = a.system as usize;
     let v = a.vector as usize;
     let m = a.memory as usize;
-    let s_at = buffers::after(0, b);
-    let v_at = buffers::after(s_at, s);
-    let m_at = buffers::after(v_at, v);
-    let w_at = buffers::after(m_at, m);
-    if !buffers::holds(base, buffers::BASE, floats, 0, b) {
+    let s_at = jobs::after(0, b);
+    let v_at = jobs::after(s_at, s);
+    let m_at = jobs::after(v_at, v);
+    let w_at = jobs::after(m_at, m);
+    if !jobs::holds(base, buffers::BASE, floats, 0, b) {
         return Found::Base;
     }
-    if !buffers::holds(system, buffers::SYSTEM, floats, s_at, s) {
+    if !jobs::holds(system, buffers::SYSTEM, floats, s_at, s) {
         return Found::System;
     }
-    if !buffers::kept(elimination, buffers::ELIMINATION, b) {
+    if !jobs::kept(elimination, buffers::ELIMINATION, b) {
         return Found::Elimination;
     }
-    if !buffers::holds(vector, buffers::VECTOR, floats, v_at, v) {
+    if !jobs::holds(vector, buffers::VECTOR, floats, v_at, v) {
         return Found::Vector;
     }
-    if !buffers::holds(memory, buffers::MEMORY, floats, m_at, m) {
+    if !jobs::holds(memory, buffers::MEMORY, floats, m_at, m) {
         return Found::Memory;
     }
-    if !buffers::holds(rows, buffers::ROWS, floats, w_at, a.row_floats as usize) {
+    if !jobs::holds(rows, buffers::ROWS, floats, w_at, a.row_floats as usize) {
         return Found::RowFloats;
     }
     Found::Nothing

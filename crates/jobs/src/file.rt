@@ -3,12 +3,14 @@ use super::parts::file_room;
 use num::u64_at;
 use std::num::wrapping_sub_u64;
 
-// "SAVJOBS", "SAVANSW" and "SAVSPRD" as little-endian words; the eighth byte is the form's digit.
+// "SAVJOBS", "SAVANSW", "SAVSPRD" and "SAVCALL" as little-endian words; the eighth byte is the form's digit.
 const JOBS: u64 = 0x0053_424f_4a56_4153;
 
 const ANSWERS: u64 = 0x0057_534e_4156_4153;
 
 pub const SPREADS: u64 = 0x0044_5250_5356_4153;
+
+const CALLS: u64 = 0x004c_4c41_4356_4153;
 
 // The digits 1 and 2 as the eighth byte of a word.
 const ONE: u64 = 0x3100_0000_0000_0000;
@@ -29,6 +31,11 @@ pub fn jobs_file(fd: i32) -> File {
 // The first words of a file of jobs and answers.
 pub fn answers_file(fd: i32) -> File {
     file_named(fd, ANSWERS)
+}
+
+// The first words of a file of calls of spreads and their reports; its number of jobs is that of the calls.
+pub fn calls_file(fd: i32) -> File {
+    file_named(fd, CALLS)
 }
 
 fn file_named(fd: i32, name: u64) -> File {

@@ -36,6 +36,16 @@ pub fn within(x: &[f64], n: usize) -> usize
     x.len()
 }
 
+// n, but no more than the words of x.
+pub fn within_words(x: &[u64], n: usize) -> usize
+    ensures { λ r. ⌜ Counts r (now (x .entry)) ⌝ }
+{
+    if n < x.len() {
+        return n;
+    }
+    x.len()
+}
+
 // Room for what fills up a part.
 fn padding() -> [u8; 8]
     ensures { λ r. ⌜ 8 ≡ length r ⌝ }

@@ -1,9 +1,13 @@
 // What is written about a job: how it ended, its unknowns, its rows, and what the judge says.
+ghost use mathlib.Core.Path.{_≡_};
+ghost use Rattle.say.specs.Rows.{floatsIn, nextColumn};
 use super::number::print_bits;
 use super::number::print_float;
+use super::word::Unknown;
 use super::word::number_word;
 use super::word::print;
 use super::word::text;
+use super::word::which;
 use engine::Ending;
 use judge::Judged;
 use numbers::limit::UNKNOWNS;
@@ -72,12 +76,14 @@ pub fn vector(x: &[f64], nodes: u64, sources: u64) {
 }
 
 fn unknown_at(k: u64, x: f64, nodes: u64, sources: u64) {
-    if k < nodes {
-        unknown(b"node ", k, x);
-        return;
-    }
-    if k - nodes < sources {
-        unknown(b"source ", k - nodes, x);
+    let u = which(k, nodes);
+    match u {
+        Unknown::Node(i) => unknown(b"node ", i, x),
+        Unknown::Source(i) => {
+            if i < sources {
+                unknown(b"source ", i, x);
+            }
+        }
     }
 }
 
@@ -104,7 +110,9 @@ pub fn rows(x: &[f64], count: u64, n: u64) {
 }
 
 // How many floats the rows are.
-fn floats(count: u64, n: u64) -> u64 {
+fn floats(count: u64, n: u64) -> u64
+    ensures { λ r. ⌜ r ≡ floatsIn count n ⌝ }
+{
     if 100000 < count {
         return 0;
     }
@@ -115,7 +123,9 @@ fn floats(count: u64, n: u64) -> u64 {
 }
 
 // A float of a row at its column, if it is of one; the column of the next.
-fn row_float(of_row: bool, x: f64, column: u64, n: u64) -> u64 {
+fn row_float(of_row: bool, x: f64, column: u64, n: u64) -> u64
+    ensures { λ r. ⌜ r ≡ nextColumn «of_row» column n ⌝ }
+{
     if !of_row {
         return 0;
     }

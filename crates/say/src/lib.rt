@@ -1,4 +1,5 @@
 // What the program writes: a line or two for a person, and after each the same for a machine, on a line of fields apart by tabs that begins with a number sign (docs/FORMATS.md).
+// What is decided on the way, as sums, layouts and which lines there are, has its definitions in specs/; what only writes has none, and is compared with stored output.
 mod job; // job.rt: a single job
 mod number; // number.rt: floats in decimal that reads back, and as bits
 mod spread; // spread.rt: all spreads of a call

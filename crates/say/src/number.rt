@@ -1,30 +1,26 @@
 // Floats for a person and for a machine: decimal text that reads back to the same bits, and the bits themselves.
-ghost use Prim.Native.Nat.{_<_};
+ghost use mathlib.Core.Path.{_≡_};
+ghost use Prim.Native.Nat.{_-_, _^_, _<_};
+ghost use lib.Ieee.{toBits, binary64};
+ghost use Rattle.say.specs.Layout.{digitsIn, layoutOf, poweredOf, powerSize, partsOf};
 use decimal::Decimal;
 use libc::STDOUT_FILENO;
 
-const TENS: [u64; 20] = [
-    1,
-    10,
-    100,
-    1000,
-    10000,
-    100000,
-    1000000,
-    10000000,
-    100000000,
-    1000000000,
-    10000000000,
-    100000000000,
-    1000000000000,
-    10000000000000,
-    100000000000000,
-    1000000000000000,
-    10000000000000000,
-    100000000000000000,
-    1000000000000000000,
-    10000000000000000000,
-];
+// How the digits of a number stand: zeros behind them and then the point, zeros between the point and them, so many of them behind the point; or so many behind it and a power of ten. None for a place beyond all floats.
+enum Layout {
+    Whole(u64),
+    Below(u64),
+    Inside(u64),
+    Power { behind: u64, minus: bool, size: u64 },
+    Nothing,
+}
+
+// Digits on both sides of a point: the number before it, zeros behind it, and the number behind these.
+struct Parts {
+    before: u64,
+    zeros: u64,
+    behind: u64,
+}
 
 // Writes x in decimal: with an exponent below 1e-4 and from 1e16 on.
 pub fn print_float(x: f64) {
@@ -50,11 +46,17 @@ pub fn print_float(x: f64) {
 
 // Writes the 64 bits of x as 16 hexadecimal digits; a NaN's as 7ff8000000000000.
 pub fn print_bits(x: f64) {
+    io::print_hex(STDOUT_FILENO, bits(x), 16);
+}
+
+// The 64 bits of x; of every NaN the same.
+fn bits(x: f64) -> u64
+    ensures { λ r. ⌜ r ≡ toBits binary64 x ⌝ }
+{
     if x != x {
-        io::write_all(STDOUT_FILENO, b"7ff8000000000000");
-        return;
+        return 0x7ff8_0000_0000_0000;
     }
-    io::print_hex(STDOUT_FILENO, f64::to_bits(x), 16);
+    f64::to_bits(x)
 }
 
 fn print_sign(minus: bool) {
@@ -65,29 +67,77 @@ fn print_sign(minus: bool) {
 
 // Writes digits times 10^(place - 326).
 fn print_number(digits: u64, place: u64) {
-    if 1000 < place {
-        return;
+    let form = laid_out(count(digits), place);
+    match form {
+        Layout::Whole(zeros) => {
+            io::print_decimal(STDOUT_FILENO, digits);
+            print_zeros(zeros);
+            io::write_all(STDOUT_FILENO, b".0");
+        }
+        Layout::Below(zeros) => {
+            io::write_all(STDOUT_FILENO, b"0.");
+            print_zeros(zeros);
+            io::print_decimal(STDOUT_FILENO, digits);
+        }
+        Layout::Inside(behind) => print_parts(digits, behind),
+        Layout::Power {
+            behind,
+            minus,
+            size,
+        } => {
+            print_parts(digits, behind);
+            io::write_all(STDOUT_FILENO, b"e");
+            print_sign(minus);
+            io::print_decimal(STDOUT_FILENO, size);
+        }
+        Layout::Nothing => {}
     }
-    let n = count(digits);
+}
+
+// How n digits times 10^(place - 326) stand: with a power of ten below 1e-4 and from 1e16 on.
+fn laid_out(n: u64, place: u64) -> Layout
+    requires { ⌜ (0 < n) × (n < 32) ⌝ }
+    ensures { λ r. ⌜ r ≡ layoutOf n place ⌝ }
+{
+    if 1000 < place {
+        return Layout::Nothing;
+    }
     let end = place + n;
-    if (end < 323) | (342 < end) {
-        print_parts(digits, n - 1);
-        print_exponent(end);
-        return;
+    if end < 323 {
+        return powered(n, end);
+    }
+    if 342 < end {
+        return powered(n, end);
     }
     if 326 <= place {
-        io::print_decimal(STDOUT_FILENO, digits);
-        print_zeros(place - 326);
-        io::write_all(STDOUT_FILENO, b".0");
-        return;
+        return Layout::Whole(place - 326);
     }
     if end <= 326 {
-        io::write_all(STDOUT_FILENO, b"0.");
-        print_zeros(326 - end);
-        io::print_decimal(STDOUT_FILENO, digits);
-        return;
+        return Layout::Below(326 - end);
     }
-    print_parts(digits, 326 - place);
+    Layout::Inside(326 - place)
+}
+
+// n digits, the first of them before the point, and the power of ten of that digit, which ends at place `end`.
+fn powered(n: u64, end: u64) -> Layout
+    requires { ⌜ 0 < n ⌝ }
+    ensures { λ r. ⌜ r ≡ poweredOf n end ⌝ }
+{
+    Layout::Power {
+        behind: n - 1,
+        minus: end < 327,
+        size: power_size(end),
+    }
+}
+
+// The size of the power of ten of a number's first digit, which ends at place `end`.
+fn power_size(end: u64) -> u64
+    ensures { λ r. ⌜ r ≡ powerSize end ⌝ }
+{
+    if end < 327 {
+        return 327 - end;
+    }
+    end - 327
 }
 
 // Writes digits with a point before the last k of them.
@@ -95,32 +145,50 @@ fn print_parts(digits: u64, k: u64) {
     if 20 <= k {
         return;
     }
-    let t = TENS[k as usize];
-    if t == 0 {
-        return;
-    }
-    io::print_decimal(STDOUT_FILENO, digits / t);
+    let p = parted(digits, k);
+    io::print_decimal(STDOUT_FILENO, p.before);
     if k == 0 {
         return;
     }
-    let rest = digits % t;
     io::write_all(STDOUT_FILENO, b".");
-    let n = count(rest);
-    if n < k {
-        print_zeros(k - n);
-    }
-    io::print_decimal(STDOUT_FILENO, rest);
+    print_zeros(p.zeros);
+    io::print_decimal(STDOUT_FILENO, p.behind);
 }
 
-// Writes the power of ten of a number's first digit, which ends at place `end`.
-fn print_exponent(end: u64) {
-    io::write_all(STDOUT_FILENO, b"e");
-    if end < 327 {
-        io::write_all(STDOUT_FILENO, b"-");
-        io::print_decimal(STDOUT_FILENO, 327 - end);
-        return;
+// The digits before a point and the k behind it.
+fn parted(digits: u64, k: u64) -> Parts
+    requires { ⌜ k < 20 ⌝ }
+    ensures { λ r. ⌜ r ≡ partsOf digits k ⌝ }
+{
+    let t = ten_to(k);
+    let behind = digits % t;
+    Parts {
+        before: digits / t,
+        zeros: lacking(k, count(behind)),
+        behind,
     }
-    io::print_decimal(STDOUT_FILENO, end - 327);
+}
+
+// How many n lacks to k.
+fn lacking(k: u64, n: u64) -> u64
+    ensures { λ r. ⌜ r ≡ k - n ⌝ }
+{
+    if n < k {
+        return k - n;
+    }
+    0
+}
+
+// 10^k.
+fn ten_to(k: u64) -> u64
+    requires { ⌜ k < 20 ⌝ }
+    ensures { λ r. ⌜ (r ≡ 10 ^ k) × (0 < r) ⌝ }
+{
+    let mut t: u64 = 1;
+    for i in 0..k {
+        t = t * 10;
+    }
+    t
 }
 
 fn print_zeros(n: u64) {
@@ -131,15 +199,9 @@ fn print_zeros(n: u64) {
 
 // How many digits n has.
 fn count(n: u64) -> u64
+    ensures { λ r. ⌜ r ≡ digitsIn n ⌝ }
     ensures { λ r. ⌜ (0 < r) × (r < 32) ⌝ }
 {
     let mut text = [0u8; 20];
-    let k = io::decimal(n, &mut text) as u64;
-    if k == 0 {
-        return 1;
-    }
-    if 31 < k {
-        return 31;
-    }
-    k
+    io::decimal(n, &mut text) as u64
 }

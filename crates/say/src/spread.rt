@@ -1,10 +1,16 @@
 // What is written about spreads: how many runs ended in each way, the chosen unknown over the settled ones, and every run that did not settle; after each line the same for a machine.
+ghost use mathlib.Core.Path.{_≡_};
+ghost use Prim.Native.Nat.{min};
+ghost use lib.ListN.{getD};
+ghost use Rattle.say.specs.Totals.{totalOf, endsDc, shown};
 use super::number::print_bits;
 use super::number::print_float;
+use super::word::Unknown;
 use super::word::is_refusal;
 use super::word::number_word;
 use super::word::print;
 use super::word::text;
+use super::word::which;
 use numbers::limit::JOB_NUMBERS;
 use numbers::refusal::KIND;
 use numbers::refusal::PATTERN;
@@ -40,13 +46,17 @@ pub fn asked(jobs: u64, nodes: u64, sources: u64, unknown: u64) {
 
 // The unknown's name: a node's voltage, or a source's current.
 fn name(unknown: u64, nodes: u64) {
-    if unknown < nodes {
-        text(b"node ");
-        print(unknown);
-        return;
+    let u = which(unknown, nodes);
+    match u {
+        Unknown::Node(i) => {
+            text(b"node ");
+            print(i);
+        }
+        Unknown::Source(i) => {
+            text(b"source ");
+            print(i);
+        }
     }
-    text(b"source ");
-    print(unknown - nodes);
 }
 
 // A refusal of the whole call.
@@ -66,10 +76,10 @@ pub fn call_refused(number: u8) {
 
 // How many jobs have each number, and that these are all the jobs given.
 pub fn counts(counts: &[u64], jobs: u64) {
-    let mut sum: u64 = 0;
     for k in 0..NUMBERS {
-        sum = counted(k, at(counts, k as usize), sum);
+        counted(k, at(counts, k as usize));
     }
+    let sum = total(counts);
     text(b"all: ");
     print(sum);
     text(b" runs of ");
@@ -81,27 +91,46 @@ pub fn counts(counts: &[u64], jobs: u64) {
     text(b"\n");
 }
 
-// The line of number k, which a DC run can end with or which did come; the sum so far with it.
-fn counted(k: u8, count: u64, sum: u64) -> u64 {
-    if ends_dc(k) | (count != 0) {
-        numbered(k);
-        text(b": ");
-        print(count);
-        text(b"\n#\tcount\t");
-        print(k as u64);
-        text(b"\t");
-        print(count);
-        text(b"\n");
+// The sum of the counts of all numbers, modulo 2^64: the very sum where it is below that, as the counts of a call are (specs/laws/Totals.antt).
+fn total(counts: &[u64]) -> u64
+    ensures { λ r. ⌜ r ≡ totalOf (now (counts .entry)) ⌝ }
+{
+    let mut sum: u64 = 0;
+    for k in 0..JOB_NUMBERS {
+        sum = std::num::wrapping_add_u64(sum, at(counts, k));
     }
-    std::num::wrapping_add_u64(sum, count)
+    sum
+}
+
+// The line of number k, if there is one.
+fn counted(k: u8, count: u64) {
+    if !shows(k, count) {
+        return;
+    }
+    numbered(k);
+    text(b": ");
+    print(count);
+    text(b"\n#\tcount\t");
+    print(k as u64);
+    text(b"\t");
+    print(count);
+    text(b"\n");
+}
+
+// Whether number k has a line: a DC run can end with it, or it did come.
+fn shows(k: u8, count: u64) -> bool
+    ensures { λ r. ⌜ r ≡ shown k count ⌝ }
+{
+    ends_dc(k) | (count != 0)
 }
 
 // Whether a DC job can be refused by this number or end with it as its verdict.
-fn ends_dc(k: u8) -> bool {
-    match k {
-        SETTLED | KIND..=PATTERN | PASSES_USED..=DIODE_CURRENT | BUDGET_SPENT => true,
-        _ => false,
-    }
+fn ends_dc(k: u8) -> bool
+    ensures { λ r. ⌜ r ≡ endsDc k ⌝ }
+{
+    let refused = (KIND <= k) & (k <= PATTERN);
+    let failed = (PASSES_USED <= k) & (k <= DIODE_CURRENT);
+    (k == SETTLED) | refused | failed | (k == BUDGET_SPENT)
 }
 
 // A job's number and what it means.
@@ -195,7 +224,9 @@ fn run(job: u64, number: u64, place: u64, passes: u64) {
 }
 
 // x[i], and 0 past the end.
-fn at(x: &[u64], i: usize) -> u64 {
+fn at(x: &[u64], i: usize) -> u64
+    ensures { λ r. ⌜ r ≡ getD (now (x .entry)) i 0 ⌝ }
+{
     if i < x.len() {
         return x[i];
     }
@@ -203,7 +234,9 @@ fn at(x: &[u64], i: usize) -> u64 {
 }
 
 // n as a byte, and 255 for all that are larger.
-fn small(n: u64) -> u8 {
+fn small(n: u64) -> u8
+    ensures { λ r. ⌜ r ≡ min n 255 ⌝ }
+{
     if n < 255 {
         return n as u8;
     }

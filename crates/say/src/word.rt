@@ -1,7 +1,25 @@
 // The plain words of refusals and verdicts, and the two things that every line is made of: text and whole numbers.
+ghost use mathlib.Core.Path.{_≡_};
+ghost use Rattle.say.specs.Words.{isRefusal, whichOf};
 use libc::STDOUT_FILENO;
 use numbers::refusal;
 use numbers::verdict;
+
+// An unknown by its name: a node's voltage, or a source's current.
+pub enum Unknown {
+    Node(u64),
+    Source(u64),
+}
+
+// Place k of a vector: the nodes stand first.
+pub fn which(k: u64, nodes: u64) -> Unknown
+    ensures { λ r. ⌜ r ≡ whichOf k nodes ⌝ }
+{
+    if k < nodes {
+        return Unknown::Node(k);
+    }
+    Unknown::Source(k - nodes)
+}
 
 // What a number means.
 pub fn number_word(k: u8) {
@@ -13,7 +31,9 @@ pub fn number_word(k: u8) {
 }
 
 // Whether a number is a refusal's: 0 and those from 20 on are verdicts.
-pub fn is_refusal(k: u8) -> bool {
+pub fn is_refusal(k: u8) -> bool
+    ensures { λ r. ⌜ r ≡ isRefusal k ⌝ }
+{
     (verdict::SETTLED < k) & (k < verdict::PASSES_USED)
 }
 

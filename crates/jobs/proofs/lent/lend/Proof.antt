@@ -2,8 +2,8 @@ use Prim.Native.Nat.{_≤_, _-_}
 use mathlib.Core.Path.{_≡_}
 use lib.ListN.{length}
 use borrow.Author.Needs.{needs}
-use Rattle.engine_replay.proofs.buffers.lend.Statement.{statement}
-use Rattle.engine_replay.proofs.buffers.lend.Tie as tie
+use Rattle.jobs.proofs.lent.lend.Statement.{statement}
+use Rattle.jobs.proofs.lent.lend.Tie as tie
 
 abbrev Inv-loop : tie.InvT-loop
 Inv-loop x₀ first i₀ i-end x i = (i ≤ i-end) × ((i-end ≡ length x) × (length x ≡ length x₀))

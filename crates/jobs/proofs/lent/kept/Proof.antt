@@ -2,17 +2,17 @@ use Prim.Native.Nat.{_≤_, _-_}
 use mathlib.Core.Path.{_≡_}
 use lib.ListN.{length}
 use borrow.Author.Needs.{needs}
-use Rattle.engine_replay.proofs.buffers.stored.Statement.{statement}
-use Rattle.engine_replay.proofs.buffers.stored.Tie as tie
+use Rattle.jobs.proofs.lent.kept.Statement.{statement}
+use Rattle.jobs.proofs.lent.kept.Tie as tie
 
 abbrev Inv-loop : tie.InvT-loop
-Inv-loop x bytes at n place₀ i₀ i-end place i = (i ≤ i-end) × (i-end ≡ length x)
+Inv-loop x first n i₀ i-end i = (i ≤ i-end) × (i-end ≡ length x)
 
 abbrev μ-loop : tie.MeasureT-loop
-μ-loop x bytes at n place₀ i₀ i-end place i = i-end - i
+μ-loop x first n i₀ i-end i = i-end - i
 
-pub stored-spec : {M : Type 1} → statement M
-stored-spec =
+pub kept-spec : {M : Type 1} → statement M
+kept-spec =
     tie.close
     (tie.spec
     Inv-loop
@@ -23,7 +23,6 @@ stored-spec =
     (λ c κs. search needs)
     (λ c κs. search needs)
     (λ c. search needs)
-    (λ c κs. search needs)
     (λ c. search needs)
     (λ c. search needs)
     (λ c. search needs)

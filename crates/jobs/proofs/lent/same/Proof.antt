@@ -1,7 +1,7 @@
 use borrow.Author.Needs.{needs}
 use Rattle.functions.specs.laws.Fields.{no-nan-of}
-use Rattle.engine_replay.proofs.buffers.same.Statement.{statement}
-use Rattle.engine_replay.proofs.buffers.same.Tie as tie
+use Rattle.jobs.proofs.lent.same.Statement.{statement}
+use Rattle.jobs.proofs.lent.same.Tie as tie
 
 float-to-bits-result : tie.Need-float-to-bits-result
 float-to-bits-result c = no-nan-of (c .before .args .x) (c .if1 .left)
