@@ -1,5 +1,6 @@
 // A file's first words: its name with the form's digit, and the number of jobs.
 use super::parts::file_room;
+use super::parts::one_byte;
 use num::u64_at;
 use std::num::wrapping_sub_u64;
 
@@ -23,9 +24,38 @@ pub struct File {
     pub jobs: u64,
 }
 
-// The first words of a file of jobs.
-pub fn jobs_file(fd: i32) -> File {
-    file_named(fd, JOBS)
+// The first words of a file of jobs; or it is empty, no file of jobs, or ends inside these words.
+pub enum JobsFile {
+    Whole(File),
+    Empty,
+    Other,
+    Ends,
+}
+
+// Reads the first words of a file of jobs.
+pub fn jobs_file(fd: i32) -> JobsFile {
+    let mut b = file_room();
+    let n = io::read_full(fd, &mut b);
+    let form = form_of(u64_at(&b, 0), JOBS);
+    if n == 0 {
+        return JobsFile::Empty;
+    }
+    if form == 0 {
+        return JobsFile::Other;
+    }
+    if n < 32 {
+        return JobsFile::Ends;
+    }
+    JobsFile::Whole(File {
+        form,
+        jobs: u64_at(&b, 8),
+    })
+}
+
+// Whether the file has no byte more. One that cannot be read may have some.
+pub fn is_over(fd: i32) -> bool {
+    let mut more = one_byte();
+    libc::read(fd, &mut more) == 0
 }
 
 // The first words of a file of jobs and answers.

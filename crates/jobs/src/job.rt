@@ -40,10 +40,18 @@ pub fn next_job(fd: i32, form: u64) -> NextJob {
     let mut head = words::head_room();
     let r = words::read_head(fd, form, FORM_1, KNOWN, &mut head);
     match r {
-        Reading::Whole => NextJob::Whole(head_of(&head, form)),
+        Reading::Whole => known(head_of(&head, form), word(&head, 2)),
         Reading::Ends => NextJob::Ends,
         Reading::Unknown => NextJob::Unknown,
     }
+}
+
+// A job that asks for this analysis: DC, a transient, or one that is not known here.
+fn known(h: Head, analysis: u64) -> NextJob {
+    if 1 < analysis {
+        return NextJob::Unknown;
+    }
+    NextJob::Whole(h)
 }
 
 // The numbers of a job whose head was read from a file of this form.
@@ -92,11 +100,21 @@ pub fn options_of(head: &[u8]) -> Options {
 
 // The bytes of a job past its points: the judge's tolerances, a float for each row.
 pub fn tolerances(h: Head) -> u64 {
-    let used = wrapping_add_u64(h.head, wrapping_add_u64(filled(h.sheet), filled(h.points)));
+    let used = used(h);
     if h.bytes < used {
         return 0;
     }
     h.bytes - used
+}
+
+// Whether a job's size has room for its parts, and is a multiple of 8.
+pub fn is_sized(h: Head) -> bool {
+    (used(h) <= h.bytes) & (h.bytes % 8 == 0)
+}
+
+// The bytes of the head, the sheet and the points.
+fn used(h: Head) -> u64 {
+    wrapping_add_u64(h.head, wrapping_add_u64(filled(h.sheet), filled(h.points)))
 }
 
 // The bytes of a part of n bytes that is filled up to a multiple of 8.

@@ -4,7 +4,7 @@ ghost use Prim.Native.Nat.{_≤_};
 ghost use lib.ListN.{length, take};
 ghost use Rattle.io.specs.Counts.{Counts};
 
-// Reads n bytes, and the zero bytes after them up to a multiple of 8, and answers how many it put at the start of `buf`: fewer than n where the file or `buf` ends.
+// Reads n bytes, and the zero bytes after them up to a multiple of 8, and answers how many it put at the start of `buf`: fewer than n where the file ends, inside the zero bytes too, or `buf` does.
 pub fn part(fd: i32, buf: &mut [u8], n: u64) -> usize
     ensures { λ r. ⌜ Counts r (now (buf .exit)) ⌝ }
 {
@@ -12,7 +12,9 @@ pub fn part(fd: i32, buf: &mut [u8], n: u64) -> usize
     let got = io::read_full(fd, &mut buf[..m]);
     let mut pad = padding();
     let k = within_bytes(&pad, (8 - m % 8) % 8);
-    io::read_full(fd, &mut pad[..k]);
+    if io::read_full(fd, &mut pad[..k]) != k {
+        return 0;
+    }
     within_bytes(buf, got)
 }
 
@@ -58,4 +60,10 @@ pub fn file_room() -> [u8; 32]
     ensures { λ r. ⌜ 32 ≡ length r ⌝ }
 {
     [0; 32]
+}
+
+pub fn one_byte() -> [u8; 1]
+    ensures { λ r. ⌜ 1 ≡ length r ⌝ }
+{
+    [0; 1]
 }

@@ -21,12 +21,12 @@ pub struct Spreads {
     pub unknown: u64,
 }
 
-// The numbers of a file of spreads; or it is empty or no file of spreads, ends inside its head, which has this form, or has a head that is not known here.
+// The numbers of a file of spreads; or it is empty or no file of spreads, ends inside its head, or has a head that is not known here.
 pub enum SpreadsFile {
     Whole(Spreads),
     Empty,
     Other,
-    Ends(u64),
+    Ends,
     Unknown,
 }
 
@@ -43,7 +43,7 @@ pub fn spreads_file(fd: i32) -> SpreadsFile {
     let r = words::read_rest(fd, form, FORM_1, KNOWN, &mut head);
     match r {
         Reading::Whole => SpreadsFile::Whole(spreads_of(&head)),
-        Reading::Ends => SpreadsFile::Ends(form),
+        Reading::Ends => SpreadsFile::Ends,
         Reading::Unknown => SpreadsFile::Unknown,
     }
 }

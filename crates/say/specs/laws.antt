@@ -1,4 +1,2 @@
--- What holds of the sums, the columns and the digits that are written.
+-- What holds of the sums that are written.
 pub mod Totals
-pub mod Rows
-pub mod Layout

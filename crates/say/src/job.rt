@@ -1,163 +1,227 @@
-// What is written about a job: how it ended, its unknowns, its rows, and what the judge says.
+// What is written about a job: how it ended, its unknowns, its rows, and what the judge says; on a sheet for a person, or as records for a machine.
 ghost use mathlib.Core.Path.{_≡_};
-ghost use Rattle.say.specs.Rows.{floatsIn, nextColumn};
-use super::number::print_bits;
-use super::number::print_float;
-use super::word::Unknown;
-use super::word::number_word;
-use super::word::print;
-use super::word::text;
-use super::word::which;
+ghost use mathlib.Core.Bool.{cond};
 use engine::Ending;
 use judge::Judged;
-use numbers::limit::UNKNOWNS;
+use pen::Pen;
+use pen::Unknown;
+use pen::begin;
+use pen::end;
+use pen::float;
+use pen::float_in;
+use pen::floats;
+use pen::is_person;
+use pen::label;
+use pen::meaning;
+use pen::number_word;
+use pen::of_job;
+use pen::print;
+use pen::print_float;
+use pen::text;
+use pen::verdict_meaning;
+use pen::verdict_word;
+use pen::which;
+use pen::whole;
 
-pub fn heading(k: u64, transient: bool, nodes: u64, sources: u64) {
-    text(b"Job ");
-    print(k);
+// The job that follows.
+pub fn heading(p: Pen, transient: bool, nodes: u64, sources: u64) -> Pen {
+    if is_person(p) {
+        return heading_line(p, transient, nodes, sources);
+    }
+    job_record(p, transient, nodes, sources)
+}
+
+fn heading_line(p: Pen, transient: bool, nodes: u64, sources: u64) -> Pen {
+    let q = print(text(p, b"Job "), p.job);
+    let r = analysis_line(q, transient);
+    let s = text(print(r, nodes), b" nodes with ground, ");
+    text(print(s, sources), b" sources\n")
+}
+
+fn analysis_line(p: Pen, transient: bool) -> Pen {
     if transient {
-        text(b": transient analysis, ");
-    } else {
-        text(b": DC operating point, ");
+        return text(p, b": transient analysis, ");
     }
-    print(nodes);
-    text(b" nodes with ground, ");
-    print(sources);
-    text(b" sources\n");
+    text(p, b": DC operating point, ")
 }
 
-pub fn refused(number: u8, place: usize) {
-    text(b"refused by ");
-    print(number as u64);
-    text(b" (");
-    number_word(number);
-    text(b"), record ");
-    print(place as u64);
-    text(b"\n#\trefused\t");
-    print(number as u64);
-    text(b"\t");
-    print(place as u64);
-    text(b"\n");
+pub fn job_record(p: Pen, transient: bool, nodes: u64, sources: u64) -> Pen {
+    let q = of_job(begin(p, b"job"));
+    let r = analysis(q, transient);
+    end(whole(whole(r, b"nodes", nodes), b"sources", sources))
 }
 
-pub fn ended(e: Ending, transient: bool) {
-    text(b"verdict ");
-    print(e.verdict as u64);
-    text(b" (");
-    number_word(e.verdict);
-    text(b"), passes ");
-    print(e.passes);
+fn analysis(p: Pen, transient: bool) -> Pen {
     if transient {
-        text(b", DC verdict ");
-        print(e.dc as u64);
-        text(b", rows ");
-        print(e.rows);
-        text(b", end time ");
-        print_float(e.end);
+        return label(p, b"analysis", b"transient");
     }
-    text(b"\n#\tended\t");
-    print(e.verdict as u64);
-    text(b"\t");
-    print(e.dc as u64);
-    text(b"\t");
-    print(e.passes);
-    text(b"\t");
-    print(e.rows);
-    text(b"\t");
-    print_bits(e.end);
-    text(b"\n");
+    label(p, b"analysis", b"dc")
 }
 
-// The unknowns: the nodes' voltages, then the sources' currents.
-pub fn vector(x: &[f64], nodes: u64, sources: u64) {
-    for i in 0..x.len() {
-        unknown_at(i as u64, x[i], nodes, sources);
+// A job that is refused.
+pub fn refused(p: Pen, number: u8, place: usize) -> Pen {
+    if is_person(p) {
+        return refused_line(p, number, place as u64);
     }
+    refused_record(p, number, place as u64)
 }
 
-fn unknown_at(k: u64, x: f64, nodes: u64, sources: u64) {
-    let u = which(k, nodes);
-    match u {
-        Unknown::Node(i) => unknown(b"node ", i, x),
-        Unknown::Source(i) => {
-            if i < sources {
-                unknown(b"source ", i, x);
-            }
-        }
+fn refused_line(p: Pen, number: u8, place: u64) -> Pen {
+    let q = text(print(text(p, b"refused by "), number as u64), b" (");
+    let r = text(number_word(q, number), b"), record ");
+    text(print(r, place), b"\n")
+}
+
+pub fn refused_record(p: Pen, number: u8, place: u64) -> Pen {
+    let q = whole(of_job(begin(p, b"refused")), b"number", number as u64);
+    end(whole(meaning(q, number), b"place", place))
+}
+
+// How a run ended.
+pub fn ended(p: Pen, e: Ending, transient: bool) -> Pen {
+    if is_person(p) {
+        return ended_line(p, e, transient);
     }
+    ended_record(p, e, transient)
 }
 
-fn unknown(name: &[u8], k: u64, x: f64) {
-    text(name);
-    print(k);
-    text(b" = ");
-    print_float(x);
-    text(b"\n#\tunknown\t");
-    text(name);
-    print(k);
-    text(b"\t");
-    print_bits(x);
-    text(b"\n");
+fn ended_line(p: Pen, e: Ending, transient: bool) -> Pen {
+    let q = text(print(text(p, b"verdict "), e.verdict as u64), b" (");
+    let r = text(verdict_word(q, e.verdict, transient), b"), passes ");
+    text(transient_line(print(r, e.passes), e, transient), b"\n")
 }
 
-// The rows of a transient, a line each: the time, then n unknowns.
-pub fn rows(x: &[f64], count: u64, n: u64) {
-    let all = floats(count, n);
-    let mut column: u64 = 0;
-    for i in 0..x.len() {
-        column = row_float((i as u64) < all, x[i], column, n);
+fn transient_line(p: Pen, e: Ending, transient: bool) -> Pen {
+    if !transient {
+        return p;
     }
+    let q = print(text(p, b", DC verdict "), e.dc as u64);
+    let r = print(text(q, b", rows "), e.rows);
+    print_float(text(r, b", end time "), e.end)
 }
 
-// How many floats the rows are.
-fn floats(count: u64, n: u64) -> u64
-    ensures { λ r. ⌜ r ≡ floatsIn count n ⌝ }
+pub fn ended_record(p: Pen, e: Ending, transient: bool) -> Pen {
+    let q = whole(of_job(begin(p, b"ended")), b"verdict", e.verdict as u64);
+    let r = whole(
+        verdict_meaning(q, e.verdict, transient),
+        b"dc_verdict",
+        dc_verdict(e, transient),
+    );
+    let s = whole(whole(r, b"passes", e.passes), b"rows", e.rows);
+    end(float(s, b"end", e.end))
+}
+
+// The verdict of DC before a transient; a DC run has none before it.
+fn dc_verdict(e: Ending, transient: bool) -> u64
+    ensures { λ r. ⌜ r ≡ cond transient (e .dc) 0 ⌝ }
 {
-    if 100000 < count {
-        return 0;
+    if transient {
+        return e.dc as u64;
     }
-    if (UNKNOWNS as u64) < n {
-        return 0;
-    }
-    count * (n + 1)
-}
-
-// A float of a row at its column, if it is of one; the column of the next.
-fn row_float(of_row: bool, x: f64, column: u64, n: u64) -> u64
-    ensures { λ r. ⌜ r ≡ nextColumn «of_row» column n ⌝ }
-{
-    if !of_row {
-        return 0;
-    }
-    if column == 0 {
-        text(b"time ");
-    } else {
-        text(b"\t");
-    }
-    print_float(x);
-    if column < n {
-        return column + 1;
-    }
-    text(b"\n");
     0
 }
 
-pub fn judged(j: Judged) {
-    match j {
-        Judged::Accepted => text(b"the judge accepts every row\n#\tjudged\taccepted\n"),
-        Judged::Rejected(i) => {
-            text(b"the judge rejects row ");
-            print(i as u64);
-            text(b"\n#\tjudged\trejected\t");
-            print(i as u64);
-            text(b"\n");
-        }
-        Judged::Refused(k) => {
-            text(b"the judge refuses by ");
-            print(k as u64);
-            text(b"\n#\tjudged\trefused\t");
-            print(k as u64);
-            text(b"\n");
+// The unknowns: the nodes' voltages, then the sources' currents.
+pub fn vector(p: Pen, x: &[f64], nodes: u64, sources: u64) -> Pen {
+    let mut q = p;
+    for i in 0..x.len() {
+        q = unknown_at(q, i as u64, x[i], nodes, sources);
+    }
+    q
+}
+
+fn unknown_at(p: Pen, k: u64, x: f64, nodes: u64, sources: u64) -> Pen {
+    let u = which(k, nodes);
+    match u {
+        Unknown::Node(i) => unknown(p, b"node", i, x),
+        Unknown::Source(i) => {
+            if i < sources {
+                return unknown(p, b"source", i, x);
+            }
+            p
         }
     }
+}
+
+fn unknown(p: Pen, of: &[u8], k: u64, x: f64) -> Pen {
+    if is_person(p) {
+        let q = print(text(text(p, of), b" "), k);
+        return text(print_float(text(q, b" = "), x), b"\n");
+    }
+    unknown_record(p, of, k, x)
+}
+
+pub fn unknown_record(p: Pen, of: &[u8], k: u64, x: f64) -> Pen {
+    let q = label(of_job(begin(p, b"unknown")), b"of", of);
+    end(float(whole(q, b"index", k), b"value", x))
+}
+
+// The rows of a transient: a time and n unknowns each.
+pub fn rows(p: Pen, x: &[f64], count: u64, n: u64) -> Pen {
+    let mut q = p;
+    let mut at: usize = 0;
+    for k in 0..count {
+        q = row(q, x, at, k, n);
+        at = std::num::wrapping_add_usize(at, std::num::wrapping_add_usize(n as usize, 1));
+    }
+    q
+}
+
+// Row k, which stands at place `at` of x.
+fn row(p: Pen, x: &[f64], at: usize, k: u64, n: u64) -> Pen {
+    if is_person(p) {
+        return row_line(p, x, at, n);
+    }
+    row_record(p, x, at, k, n)
+}
+
+fn row_line(p: Pen, x: &[f64], at: usize, n: u64) -> Pen {
+    let mut q = print_float(text(p, b"time "), float_in(x, at));
+    let mut i = at;
+    for k in 0..n {
+        i = std::num::wrapping_add_usize(i, 1);
+        q = print_float(text(q, b"\t"), float_in(x, i));
+    }
+    text(q, b"\n")
+}
+
+pub fn row_record(p: Pen, x: &[f64], at: usize, k: u64, n: u64) -> Pen {
+    let q = whole(of_job(begin(p, b"row")), b"row", k);
+    let r = float(q, b"time", float_in(x, at));
+    end(floats(r, b"values", x, std::num::wrapping_add_usize(at, 1), n))
+}
+
+// What the judge says.
+pub fn judged(p: Pen, j: Judged) -> Pen {
+    match j {
+        Judged::Accepted => accepted(p),
+        Judged::Rejected(i) => rejected(p, i as u64),
+        Judged::Refused(k) => judge_refused(p, k as u64),
+    }
+}
+
+fn accepted(p: Pen) -> Pen {
+    if is_person(p) {
+        return text(p, b"the judge accepts every row\n");
+    }
+    judged_record(p, b"accepted", 0, 0)
+}
+
+fn rejected(p: Pen, row: u64) -> Pen {
+    if is_person(p) {
+        return text(print(text(p, b"the judge rejects row "), row), b"\n");
+    }
+    judged_record(p, b"rejected", row, 0)
+}
+
+fn judge_refused(p: Pen, number: u64) -> Pen {
+    if is_person(p) {
+        return text(print(text(p, b"the judge refuses by "), number), b"\n");
+    }
+    judged_record(p, b"refused", 0, number)
+}
+
+pub fn judged_record(p: Pen, answer: &[u8], row: u64, number: u64) -> Pen {
+    let q = label(of_job(begin(p, b"judged")), b"answer", answer);
+    end(whole(whole(q, b"row", row), b"number", number))
 }

@@ -1,10 +1,17 @@
-// What the program writes: a line or two for a person, and after each the same for a machine, on a line of fields apart by tabs that begins with a number sign (docs/FORMATS.md).
-// What is decided on the way, as sums, layouts and which lines there are, has its definitions in specs/; what only writes has none, and is compared with stored output.
+// What the program writes: a sheet for a person, or records for a machine, as lines of fields apart by tabs or as JSON (docs/FORMATS.md).
+// What is decided on the way, as the sum of the counts and which lines there are, has its definitions in specs/; what only writes has none, and is compared with stored output.
+mod call; // call.rt: a whole call, its files and its faults
 mod job; // job.rt: a single job
-mod number; // number.rt: floats in decimal that reads back, and as bits
 mod spread; // spread.rt: all spreads of a call
-mod word; // word.rt: the words of refusals and verdicts
 
+pub use call::call_begun;
+pub use call::call_ended;
+pub use call::fault;
+pub use call::faulted;
+pub use call::file_begun;
+pub use call::file_fault;
+pub use call::job_fault;
+pub use call::sentence;
 pub use job::ended;
 pub use job::heading;
 pub use job::judged;

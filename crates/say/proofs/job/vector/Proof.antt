@@ -1,14 +1,14 @@
-use Prim.Native.Nat.{_≤_, _-_}
 use lib.ListN.{length}
+use Prim.Native.Nat.{_≤_, _-_}
 use borrow.Author.Needs.{needs}
 use Rattle.say.proofs.job.vector.Statement.{statement}
 use Rattle.say.proofs.job.vector.Tie as tie
 
 abbrev Inv-loop : tie.InvT-loop
-Inv-loop x nodes sources i₀ i-end i = i ≤ length x
+Inv-loop x nodes sources q₀ i₀ i-end q i = i ≤ length x
 
 abbrev μ-loop : tie.MeasureT-loop
-μ-loop x nodes sources i₀ i-end i = length x - i
+μ-loop x nodes sources q₀ i₀ i-end q i = length x - i
 
 pub vector-spec : {M : Type 1} → statement M
 vector-spec =

@@ -4,10 +4,10 @@ use Rattle.say.proofs.spread.counts.Statement.{statement}
 use Rattle.say.proofs.spread.counts.Tie as tie
 
 abbrev Inv-loop : tie.InvT-loop
-Inv-loop counts jobs k₀ t5 t6 t7 t8 t9 k = k ≤ 27
+Inv-loop counts jobs q₀ k₀ q k = k ≤ 27
 
 abbrev μ-loop : tie.MeasureT-loop
-μ-loop counts jobs k₀ t5 t6 t7 t8 t9 k = 27 - k
+μ-loop counts jobs q₀ k₀ q k = 27 - k
 
 pub counts-spec : {M : Type 1} → statement M
 counts-spec =
@@ -23,18 +23,5 @@ counts-spec =
     (λ c. search needs)
     (λ c. search needs)
     (λ c κs. search needs)
-    (λ c. search needs)
-    (λ c κs. search needs)
-    (λ c κs. search needs)
-    (λ c. search needs)
-    (λ c κs. search needs)
-    (λ c κs. search needs)
-    (λ c. search needs)
-    (λ c κs. search needs)
-    (λ c κs. search needs)
-    (λ c. search needs)
-    (λ c κs. search needs)
-    (λ c κs. search needs)
-    (λ c. search needs)
     (λ c κs. search needs)
     (λ c. search needs))

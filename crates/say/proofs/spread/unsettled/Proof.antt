@@ -4,10 +4,10 @@ use Rattle.say.proofs.spread.unsettled.Statement.{statement}
 use Rattle.say.proofs.spread.unsettled.Tie as tie
 
 abbrev Inv-loop : tie.InvT-loop
-Inv-loop numbers places passes jobs settled i₀ i = i ≤ jobs
+Inv-loop numbers places passes jobs settled q₀ i₀ q i = i ≤ jobs
 
 abbrev μ-loop : tie.MeasureT-loop
-μ-loop numbers places passes jobs settled i₀ i = jobs - i
+μ-loop numbers places passes jobs settled q₀ i₀ q i = jobs - i
 
 pub unsettled-spec : {M : Type 1} → statement M
 unsettled-spec =
@@ -15,14 +15,6 @@ unsettled-spec =
     (tie.spec
     Inv-loop
     μ-loop
-    (λ c. search needs)
-    (λ c κs. search needs)
-    (λ c. search needs)
-    (λ c. search needs)
-    (λ c κs. search needs)
-    (λ c. search needs)
-    (λ c κs. search needs)
-    (λ c. search needs)
     (λ c κs. search needs)
     (λ c. search needs)
     (λ c κs. search needs)

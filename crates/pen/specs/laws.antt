@@ -1,0 +1,2 @@
+-- What holds of the digits that are written.
+pub mod Layout
