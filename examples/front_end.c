@@ -1,4 +1,5 @@
-/* Runs every job of a file (docs/FORMATS.md) through the C door and prints the lines that ./savrunte prints for a machine.
+/* Runs every job of a file (docs/FORMATS.md) through the C door and prints the records that ./savrunte --tsv prints, with those of
+ * their fields that are numbers or bits: C has no shortest decimals, and the words are the program's own. The file is number 0.
  * examples/front_end.sh builds it, runs it on examples/front_end.jobs and compares the two. */
 #include <inttypes.h>
 #include <stdio.h>
@@ -56,7 +57,7 @@ static savrunte_transient_answer run(const job *j) {
     savrunte_dc_answer dc =
         savrunte_dc(j->sheet, j->sheet_len, j->points, j->points_len, j->nodes, j->sources, j->options, base, j->lent[0],
                     matrix, j->lent[1], elimination, j->lent[2], vector, j->lent[3], memory, j->lent[4]);
-    savrunte_transient_answer a = {dc.refusal, dc.place, dc.verdict, dc.verdict, dc.passes, 0, 0.0};
+    savrunte_transient_answer a = {dc.refusal, dc.place, dc.verdict, 0, dc.passes, 0, 0.0}; /* DC has no DC verdict before it */
     return a;
 }
 
@@ -69,40 +70,63 @@ static uint64_t bits(double x) {
     return b;
 }
 
-static void print_unknowns(const job *j) {
-    for (uint64_t i = 0; i < j->lent[3] && i < j->nodes + j->sources; i++) {
+/* The fields that the records below have, each kind with its own header line. */
+static void print_headers(void) {
+    printf("#job\tfile\tjob\tanalysis\tnodes\tsources\n"
+           "#refused\tfile\tjob\tnumber\tplace\n"
+           "#ended\tfile\tjob\tverdict\tdc_verdict\tpasses\trows\tend_bits\n"
+           "#unknown\tfile\tjob\tof\tindex\tvalue_bits\n"
+           "#row\tfile\tjob\trow\ttime_bits\tvalues_bits\n"
+           "#judged\tfile\tjob\tanswer\trow\tnumber\n");
+}
+
+/* The nodes stand first in a vector, then the sources. */
+static void print_unknowns(uint64_t k, const job *j) {
+    for (uint64_t i = 0; i < j->nodes + j->sources; i++) {
         int node = i < j->nodes;
-        printf("#\tunknown\t%s %" PRIu64 "\t%016" PRIx64 "\n", node ? "node" : "source", node ? i : i - j->nodes, bits(vector[i]));
+        printf("unknown\t0\t%" PRIu64 "\t%s\t%" PRIu64 "\t%016" PRIx64 "\n", k, node ? "node" : "source", node ? i : i - j->nodes,
+               bits(vector[i]));
     }
 }
 
-static void print_judged(const job *j) {
+/* A row is the time and then the unknowns; these are one field, apart by a space. */
+static void print_rows(uint64_t k, const job *j, uint64_t count) {
+    uint64_t n = j->nodes + j->sources;
+    for (uint64_t i = 0; i < count; i++) {
+        const double *row = rows + i * (n + 1);
+        printf("row\t0\t%" PRIu64 "\t%" PRIu64 "\t%016" PRIx64, k, i, bits(row[0]));
+        for (uint64_t c = 1; c <= n; c++) {
+            printf("%c%016" PRIx64, c == 1 ? '\t' : ' ', bits(row[c]));
+        }
+        printf("\n");
+    }
+}
+
+static void print_judged(uint64_t k, const job *j) {
     savrunte_judge_answer a =
         savrunte_judge(matrix, j->lent[1], vector, j->lent[3], j->tolerances, UNKNOWNS, j->rows_judged);
-    if (a.refusal != 0) {
-        printf("#\tjudged\trefused\t%" PRIu64 "\n", a.refusal);
-    } else if (a.row < j->rows_judged) {
-        printf("#\tjudged\trejected\t%" PRIu64 "\n", a.row);
-    } else {
-        printf("#\tjudged\taccepted\n");
-    }
+    int rejected = a.refusal == 0 && a.row < j->rows_judged;
+    printf("judged\t0\t%" PRIu64 "\t%s\t%" PRIu64 "\t%" PRIu64 "\n", k, a.refusal != 0 ? "refused" : rejected ? "rejected" : "accepted",
+           rejected ? a.row : 0, a.refusal);
 }
 
-static void run_and_print(const job *j) {
+static void run_and_print(uint64_t k, const job *j) {
     if (j->lent[0] > CELLS || j->lent[1] > CELLS || j->lent[2] > CELLS || j->lent[3] > UNKNOWNS || j->lent[4] > MEMORY ||
         j->lent[5] > ROWS) {
         stop("The job wants larger buffers than there are.");
     }
+    printf("job\t0\t%" PRIu64 "\t%s\t%" PRIu64 "\t%" PRIu64 "\n", k, j->transient == 1 ? "transient" : "dc", j->nodes, j->sources);
     savrunte_transient_answer a = run(j);
     if (a.refusal != 0) {
-        printf("#\trefused\t%" PRIu64 "\t%" PRIu64 "\n", a.refusal, a.place);
+        printf("refused\t0\t%" PRIu64 "\t%" PRIu64 "\t%" PRIu64 "\n", k, a.refusal, a.place);
         return;
     }
-    printf("#\tended\t%" PRIu64 "\t%" PRIu64 "\t%" PRIu64 "\t%" PRIu64 "\t%016" PRIx64 "\n", a.verdict, a.dc_verdict, a.passes,
-           a.rows, bits(a.end));
-    print_unknowns(j);
+    printf("ended\t0\t%" PRIu64 "\t%" PRIu64 "\t%" PRIu64 "\t%" PRIu64 "\t%" PRIu64 "\t%016" PRIx64 "\n", k, a.verdict, a.dc_verdict,
+           a.passes, a.rows, bits(a.end));
+    print_unknowns(k, j);
+    print_rows(k, j, a.rows);
     if (j->rows_judged != 0) {
-        print_judged(j);
+        print_judged(k, j);
     }
 }
 
@@ -112,9 +136,10 @@ int main(int argc, char **argv) {
     if (file == NULL || fread(head, 1, 32, file) != 32 || memcmp(head, "SAVJOBS1", 8) != 0) {
         stop("usage: front_end FILE, a file of jobs (docs/FORMATS.md)");
     }
+    print_headers();
     for (uint64_t k = 0; k < head[1]; k++) {
         job j = next_job(file);
-        run_and_print(&j);
+        run_and_print(k, &j);
     }
     fclose(file);
     return 0;

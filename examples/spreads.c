@@ -1,4 +1,5 @@
-/* Runs a file of spreads (docs/FORMATS.md) in one call through the C door and prints the lines that ./savrunte spreads prints for a machine.
+/* Runs a file of spreads (docs/FORMATS.md) in one call through the C door and prints the records that ./savrunte --tsv spreads prints,
+ * with those of their fields that are numbers or bits: C has no shortest decimals, and the words are the program's own. The file is number 0.
  * examples/spreads.sh builds it, runs it on examples/spreads.jobs and compares the two. */
 #include <inttypes.h>
 #include <stdio.h>
@@ -31,10 +32,23 @@ static void take(FILE *file, void *to, size_t n, size_t room) {
     }
 }
 
-static void print_value(const char *name, double x, uint64_t job) {
+/* The fields that the records below have, each kind with its own header line. */
+static void print_headers(void) {
+    printf("#spreads\tfile\tjobs\tnodes\tsources\tof\tindex\n"
+           "#call_refused\tfile\tnumber\n"
+           "#count\tfile\tnumber\tjobs\n"
+           "#total\tfile\truns\tjobs\n"
+           "#smallest\tfile\tvalue_bits\tjob\n"
+           "#largest\tfile\tvalue_bits\tjob\n"
+           "#mean\tfile\tvalue_bits\tsettled\n"
+           "#not_settled\tfile\tjob\tnumber\tplace\tpasses\n");
+}
+
+/* A value, and the job where it stands or the runs that it is the mean of. Over settled runs it is no NaN. */
+static void print_value(const char *kind, double x, uint64_t number) {
     uint64_t bits;
     memcpy(&bits, &x, 8);
-    printf("#\t%s\t%016" PRIx64 "\t%" PRIu64 "\n", name, bits, job);
+    printf("%s\t0\t%016" PRIx64 "\t%" PRIu64 "\n", kind, bits, number);
 }
 
 /* A DC job's numbers: settled, refused by 6 to 10, or ended by 20, 21, 22 or 24. */
@@ -45,10 +59,10 @@ static void print_answer(const head *h, savrunte_spreads_answer a) {
     for (int k = 0; k < NUMBERS; k++) {
         total += counts[k];
         if (of_dc(k) || counts[k] != 0) {
-            printf("#\tcount\t%d\t%" PRIu64 "\n", k, counts[k]);
+            printf("count\t0\t%d\t%" PRIu64 "\n", k, counts[k]);
         }
     }
-    printf("#\ttotal\t%" PRIu64 "\t%" PRIu64 "\n", total, h->jobs);
+    printf("total\t0\t%" PRIu64 "\t%" PRIu64 "\n", total, h->jobs);
     if (a.settled != 0) {
         print_value("smallest", a.smallest, a.smallest_at);
         print_value("largest", a.largest, a.largest_at);
@@ -56,7 +70,7 @@ static void print_answer(const head *h, savrunte_spreads_answer a) {
     }
     for (uint64_t i = 0; i < h->jobs; i++) {
         if (numbers[i] != 0) {
-            printf("#\tnot settled\t%" PRIu64 "\t%" PRIu64 "\t%" PRIu64 "\t%" PRIu64 "\n", i, numbers[i], places[i], passes[i]);
+            printf("not_settled\t0\t%" PRIu64 "\t%" PRIu64 "\t%" PRIu64 "\t%" PRIu64 "\n", i, numbers[i], places[i], passes[i]);
         }
     }
 }
@@ -76,10 +90,11 @@ int main(int argc, char **argv) {
         elimination, CELLS, memory, RECORDS, vectors, JOBS * N, numbers, JOBS, places, JOBS, passes, JOBS, counts, NUMBERS, plus,
         LIMBS, minus, LIMBS);
     int node = h.unknown < h.nodes;
-    printf("#\tspreads\t%" PRIu64 "\t%" PRIu64 "\t%" PRIu64 "\t%s %" PRIu64 "\n", h.jobs, h.nodes, h.sources,
+    print_headers();
+    printf("spreads\t0\t%" PRIu64 "\t%" PRIu64 "\t%" PRIu64 "\t%s\t%" PRIu64 "\n", h.jobs, h.nodes, h.sources,
            node ? "node" : "source", node ? h.unknown : h.unknown - h.nodes);
     if (a.refusal != 0) {
-        printf("#\trefused\t%" PRIu64 "\t0\n", a.refusal);
+        printf("call_refused\t0\t%" PRIu64 "\n", a.refusal);
         return 0;
     }
     print_answer(&h, a);

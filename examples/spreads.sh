@@ -1,3 +1,3 @@
 #!/usr/bin/env bash
-# Runs the spreads from C and compares the lines for a machine, to the bit, with those of ./savrunte spreads: says so, or shows what differs.
+# Runs the spreads from C and compares the records, to the bit, with those of ./savrunte --tsv spreads: says so, or shows what differs.
 exec "$(dirname "$0")/compare.sh" spreads "$(dirname "$0")/spreads.jobs" spreads

@@ -45,13 +45,14 @@ with tempfile.NamedTemporaryFile(suffix='.jobs') as f:
     all_jobs = [job() for _ in range(jobs)]
     f.write(b'SAVJOBS1' + struct.pack('<3Q', jobs, max(map(len, all_jobs)), 0) + b''.join(all_jobs))
     f.flush()
-    lines = subprocess.run([os.path.join(top, 'savrunte'), f.name], stdout=subprocess.PIPE, check=True).stdout.decode().split('\n')
+    lines = subprocess.run([os.path.join(top, 'savrunte'), '--tsv', f.name], stdout=subprocess.PIPE, check=True).stdout.decode().splitlines()
+fields = next(line for line in lines if line.startswith('#unknown\t')).split('\t')
 count = wrong = 0
 seen = set()
-for line, after in zip(lines, lines[1:]):
-    if ' = ' not in line: continue
-    text = line.split(' = ')[1]
-    bits = int(after.split('\t')[-1], 16)
+for line in lines:
+    record = dict(zip(fields, line.split('\t')))
+    if record['#unknown'] != 'unknown': continue
+    text, bits = record['value'], int(record['value_bits'], 16)
     x = struct.unpack('<d', struct.pack('<Q', bits))[0]
     count += 1
     seen.add(bits)
@@ -59,3 +60,4 @@ for line, after in zip(lines, lines[1:]):
         wrong += 1
         print('differs:', text, expected(x), hex(bits))
 print(count, 'floats,', len(seen), 'of them different;', wrong, 'texts differ from the shortest that reads back')
+sys.exit(1 if wrong or not count else 0)

@@ -1,8 +1,8 @@
 #!/usr/bin/env python3
 """Holds what the program says of a file of spreads against the same jobs run one by one: python3 tools/spreads/check.py [FILE], at the repository's top.
 
-Each sheet is written as a job of its own into a file that ./savrunte runs; the counts, the smallest, the largest, the mean (by exact fractions) and the
-list of runs that did not settle are worked out here from its answers and compared, line by line, with those of ./savrunte spreads.
+Each sheet is written as a job of its own into a file that ./savrunte --tsv runs; the counts, the smallest, the largest, the mean (by exact fractions) and the
+list of runs that did not settle are worked out here from its records and compared, one by one, with those of ./savrunte --tsv spreads.
 """
 import struct
 import subprocess
@@ -18,9 +18,16 @@ n, each = nodes + sources, sheets_len // jobs
 sheets, points = data[192:192 + sheets_len], data[192 + sheets_len:192 + sheets_len + points_len]
 
 
-def machine_lines(*arguments):
-    out = subprocess.run(['./savrunte', *arguments], capture_output=True, text=True, check=True).stdout
-    return [line.split('\t')[1:] for line in out.split('\n') if line.startswith('#')]
+def records(*arguments):
+    """The records that the program writes, each with its kind and its fields by their names."""
+    lines = subprocess.run(['./savrunte', '--tsv', *arguments], capture_output=True, text=True, check=True).stdout.splitlines()
+    fields = {kind: names for kind, *names in (line[1:].split('\t') for line in lines if line.startswith('#'))}
+    return [dict(zip(['kind', *fields[kind]], [kind, *values])) for kind, *values in (line.split('\t') for line in lines if not line.startswith('#'))]
+
+
+def bare(record):
+    """What is compared: no file's number, and of a float its bits alone. The words of a number are the program's own."""
+    return {name: text for name, text in record.items() if name not in ('file', 'meaning') and name + '_bits' not in record}
 
 
 def single(sheet):
@@ -36,14 +43,14 @@ def answers():
         alone = [single(sheets[i * each:(i + 1) * each]) for i in range(jobs)]
         f.write(b'SAVJOBS1' + struct.pack('<3Q', jobs, max(map(len, alone)), 0) + b''.join(alone))
         f.flush()
-        name = 'node %d' % unknown if unknown < nodes else 'source %d' % (unknown - nodes)
-        for line in machine_lines(f.name):
-            if line[0] == 'refused':
-                yield int(line[1]), int(line[2]), 0, None
-            elif line[0] == 'ended':
-                ended = int(line[1]), 0, int(line[3])
-            elif line[:2] == ['unknown', name]:
-                yield (*ended, struct.unpack('>d', bytes.fromhex(line[2]))[0])
+        chosen = ('node', str(unknown)) if unknown < nodes else ('source', str(unknown - nodes))
+        for r in records(f.name):
+            if r['kind'] == 'refused':
+                yield int(r['number']), int(r['place']), 0, None
+            elif r['kind'] == 'ended':
+                ended = int(r['verdict']), 0, int(r['passes'])
+            elif r['kind'] == 'unknown' and (r['of'], r['index']) == chosen:
+                yield (*ended, struct.unpack('>d', bytes.fromhex(r['value_bits']))[0])
 
 
 def bits(x): return struct.pack('>d', x).hex()
@@ -51,15 +58,17 @@ def bits(x): return struct.pack('>d', x).hex()
 
 runs = list(answers())
 settled = [(x, i) for i, (number, _, _, x) in enumerate(runs) if number == 0]
-expected = [['count', str(k), str(sum(r[0] == k for r in runs))] for k in (0, 6, 7, 8, 9, 10, 20, 21, 22, 24)]
-expected += [['total', str(len(runs)), str(jobs)]]
+expected = [{'kind': 'count', 'number': k, 'jobs': sum(r[0] == k for r in runs)} for k in (0, 6, 7, 8, 9, 10, 20, 21, 22, 24)]
+expected += [{'kind': 'total', 'runs': len(runs), 'jobs': jobs}]
 if settled:
     smallest, largest = min(settled, key=lambda s: s[0]), max(settled, key=lambda s: s[0])
     mean = float(sum(Fraction(x) for x, _ in settled) / len(settled))
-    expected += [['smallest', bits(smallest[0]), str(smallest[1])], ['largest', bits(largest[0]), str(largest[1])], ['mean', bits(mean), str(len(settled))]]
-expected += [['not settled', str(i), *map(str, r[:3])] for i, r in enumerate(runs) if r[0] != 0]
-given = machine_lines('spreads', path)[1:]
-for line in [line for line in expected if line not in given] + [line for line in given if line not in expected]:
-    print('differs:', line)
+    expected += [{'kind': 'smallest', 'value_bits': bits(smallest[0]), 'job': smallest[1]}, {'kind': 'largest', 'value_bits': bits(largest[0]), 'job': largest[1]}]
+    expected += [{'kind': 'mean', 'value_bits': bits(mean), 'settled': len(settled)}]
+expected += [{'kind': 'not_settled', 'job': i, 'number': r[0], 'place': r[1], 'passes': r[2]} for i, r in enumerate(runs) if r[0] != 0]
+expected = [{name: str(value) for name, value in record.items()} for record in expected]
+given = [bare(record) for record in records('spreads', path) if record['kind'] not in ('format', 'file', 'spreads', 'status')]
+for record in [record for record in expected if record not in given] + [record for record in given if record not in expected]:
+    print('differs:', record)
 assert given == expected
-print('%d jobs, %d settled: the same lines as one by one' % (jobs, len(settled)))
+print('%d jobs, %d settled: the same records as one by one' % (jobs, len(settled)))
