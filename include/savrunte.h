@@ -3,6 +3,17 @@
  * Every function is total: it refuses by a number and changes nothing that was lent to it, or it runs and says how it ended.
  * Numbers are listed in docs/NUMBERS.md. A slice is a pointer and then its length in elements; a length of 0 wants a pointer
  * that is not null. On a refusal every other field of the answer is 0, but for the place of 6 to 10. N is nodes (ground included) plus sources.
+ *
+ * What is assumed; where it does not hold, nothing is promised:
+ * - Buffers. A pointer without const is lent, and its buffer may be written. Lent buffers overlap neither each other nor anything
+ *   that the call reads; what is only read may overlap. Each pointer is aligned for its type and has as many elements as its length says.
+ * - The default floating-point environment, as a program starts: round to nearest, no exception traps, subnormal numbers kept
+ *   (neither flush-to-zero nor denormals-are-zero, which code linked with -ffast-math can set for the whole process). The archive is
+ *   x86-64 code with SSE2 doubles: no x87, so no excess precision, and no fused multiply-add.
+ * - Stack. A run (DC, transient, spreads) takes up to 23 KiB, every other call less than 2 KiB. Where the dynamic linker binds fmod,
+ *   memcpy and memset at their first call, that call takes a few KiB more. Leave 32 KiB.
+ * Calls from several threads are safe as long as they share no lent buffer; what is only read may be shared. There is no global
+ * state: the archive has no writable data, takes no memory but the stack and the buffers, and keeps nothing between calls.
  */
 #ifndef SAVRUNTE_H
 #define SAVRUNTE_H
@@ -34,9 +45,9 @@ enum savrunte_refusal {
 };
 
 enum savrunte_verdict {
-    SAVRUNTE_SETTLED = 0,           /* the last two vectors agree within the tolerances */
+    SAVRUNTE_SETTLED = 0,           /* DC: the last two vectors agree within the tolerances; transient: it reached TSTOP, and every step settled */
     SAVRUNTE_PASSES_USED_UP = 20,   /* DC has used its ITL1 + 1 passes */
-    SAVRUNTE_CONVERGENCE_ERROR = 21,/* a number that is not finite */
+    SAVRUNTE_CONVERGENCE_ERROR = 21,/* a number that is not finite, and no later place of the vector that says "no" */
     SAVRUNTE_DIODE_NOT_FINITE = 22, /* a diode's current is not finite */
     SAVRUNTE_STEP_TOO_SMALL = 23,   /* the time step fell below its least size */
     SAVRUNTE_BUDGET_SPENT = 24,     /* the budget of passes is spent */
@@ -157,7 +168,8 @@ double savrunte_mean(const uint64_t *plus, size_t plus_len, const uint64_t *minu
  * Answers 0, or 1 or 5. Afterwards the matrix is the eliminated one and the vector the answer. */
 uint64_t savrunte_solve(double *matrix, size_t matrix_len, double *vector, size_t vector_len, size_t rows);
 
-/* Compares two vectors: places below `nodes` with VNTOL, the others with ABSTOL. */
+/* Compares two vectors: places below `nodes` with VNTOL, the others with ABSTOL. The last place that is not finite (error) or differs
+ * by more than its tolerance (no) decides; without one it is yes. */
 savrunte_convergence_answer savrunte_convergence(
     const double *x, size_t x_len, const double *y, size_t y_len, size_t nodes, savrunte_options options);
 

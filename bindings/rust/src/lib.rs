@@ -3,6 +3,17 @@
 //! Slices go in, an enum comes out. A call refuses with a [`Refusal`] and changes nothing that was lent to it, or it runs and
 //! ends with exactly one [`Verdict`].
 //!
+//! What is assumed; where it does not hold, nothing is promised:
+//!
+//! - The default floating-point environment, as a program starts: round to nearest, no exception traps, subnormal numbers kept
+//!   (neither flush-to-zero nor denormals-are-zero, which C code linked with `-ffast-math` can set for the whole process). The
+//!   archive is x86-64 code with SSE2 doubles: no x87, so no excess precision, and no fused multiply-add.
+//! - Stack. A run (DC, transient, spreads) takes up to 23 KiB, every other call less than 2 KiB. Where the dynamic linker binds
+//!   `fmod`, `memcpy` and `memset` at their first call, that call takes a few KiB more. Leave 32 KiB.
+//!
+//! Calls from several threads are safe: there is no global state. That lent buffers overlap neither each other nor what is read,
+//! which the header asks of a C caller, the borrow checker sees to.
+//!
 //! A divider: 4 V at node 1, two resistors of 1 ohm in a row.
 //!
 //! ```
@@ -88,7 +99,8 @@ pub enum Transient {
     Ended { verdict: Verdict, dc_verdict: Verdict, passes: u64, rows: usize, end: f64 },
 }
 
-/// What two vectors say of each other.
+/// What two vectors say of each other. The last place that is not finite (error) or differs by more than its tolerance (no)
+/// decides; without one it is yes.
 #[derive(Clone, Copy, Debug, PartialEq, Eq)]
 pub enum Convergence {
     Refused(Refusal),

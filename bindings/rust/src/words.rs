@@ -60,7 +60,9 @@ numbered! {
 }
 
 numbered! {
-    /// How a run ended.
+    /// How a run ended. `Settled` of a DC run: the last two vectors agree within the tolerances. Of a transient: it reached TSTOP,
+    /// and every step settled; its DC verdict says whether DC did. `ConvergenceError`: a number is not finite, and no later place
+    /// of the vector says "no".
     Verdict {
         Settled = 0, "settled";
         PassesUsedUp = 20, "the DC passes are used up";
