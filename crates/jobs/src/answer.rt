@@ -6,7 +6,10 @@ use super::words::word;
 // The words of an answer's head in form 1, which every head has, and those that are known here.
 const FORM_1: u8 = 14;
 
-const KNOWN: u8 = 14;
+const KNOWN: u8 = 15;
+
+// What an answer has for a number that it does not tell, and that is not compared.
+pub const NOT_TOLD: u64 = 18446744073709551615;
 
 pub struct Answer {
     pub refusal: u64,
@@ -22,6 +25,7 @@ pub struct Answer {
     pub memory: u64,
     pub row_floats: u64,
     pub floats: u64, // bytes of all of them
+    pub behind: u64, // 0, or 1 and the place of the first diode that is behind
 }
 
 // The numbers of the next answer, if it has them and no other.
@@ -65,5 +69,6 @@ fn answer_of(head: &[u8], floats: u64) -> Answer {
         memory: word(head, 12),
         row_floats: word(head, 13),
         floats,
+        behind: words::word_or(head, 14, NOT_TOLD),
     }
 }

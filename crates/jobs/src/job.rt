@@ -9,7 +9,7 @@ use std::num::wrapping_add_u64;
 // The words of a job's head in form 1, and those that are known here.
 const FORM_1: u8 = 30;
 
-const KNOWN: u8 = 30;
+const KNOWN: u8 = 31;
 
 pub struct Head {
     pub bytes: u64, // of the job
@@ -95,6 +95,7 @@ pub fn options_of(head: &[u8]) -> Options {
         itl3: word(head, 19),
         itl4: word(head, 20),
         budget: word(head, 21),
+        catchup: word(head, 30),
     }
 }
 

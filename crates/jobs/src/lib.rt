@@ -12,6 +12,7 @@ mod spread; // spread.rt: the numbers of a file of spreads
 mod words; // words.rt: the words of a head, of either form
 
 pub use answer::Answer;
+pub use answer::NOT_TOLD;
 pub use answer::NextAnswer;
 pub use answer::next_answer;
 pub use file::File;

@@ -150,6 +150,7 @@ fn options_of(gmin: f64, boltzmann: f64, charge: f64) -> Options {
         itl3: 0,
         itl4: 0,
         budget: 1,
+        catchup: 0,
     }
 }
 

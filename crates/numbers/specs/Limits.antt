@@ -32,3 +32,7 @@ sumLimbs = 66
 -- the numbers that a job can have, refusals and verdicts, are 0 to 26
 abbrev pub jobNumbers : ℕ
 jobNumbers = 27
+
+-- with the causes beyond them they are 0 to 28
+abbrev pub jobCauses : ℕ
+jobCauses = 29

@@ -23,3 +23,6 @@ pub const SUM_LIMBS: usize = 66;
 
 // The numbers that a job can have, refusals and verdicts, are 0 to 26.
 pub const JOB_NUMBERS: usize = 27;
+
+// With the causes beyond them they are 0 to 28.
+pub const JOB_CAUSES: usize = 29;

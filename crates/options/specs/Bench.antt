@@ -26,4 +26,5 @@ bench itl1 =
       itl3 = 0;
       itl4 = 10;
       budget = 20;
+      catchup = 0;
     }

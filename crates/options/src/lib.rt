@@ -18,4 +18,6 @@ pub struct Options {
     pub itl3: u64,
     pub itl4: u64,
     pub budget: u64,
+    // 0 off, anything else on: a pass that would say "yes" says "no" while a diode is behind
+    pub catchup: u64,
 }
