@@ -57,11 +57,11 @@ module _ (c : Call) where
   -- a job that runs, and one that is refused
   abbrev pub ranSingle : Single
   ranSingle =
-      singleOf (markAs (verdictOf (last .counters)) 0 (last .counters .passes)) (last .buffers .vector ++ drop (order (sizes c)) (zerosLike (c .lent .vector)))
+      singleOf (markAs (verdictOf (last .counters)) 0 (last .counters .passes) 0) (last .buffers .vector ++ drop (order (sizes c)) (zerosLike (c .lent .vector)))
       (last .buffers .system ++ drop (cells (sizes c)) (zerosLike (c .lent .system)))
 
   abbrev pub refusedSingle : ℕ → ℕ → Single
-  refusedSingle k i = singleOf (markAs k i 0) (zerosLike (c .lent .vector)) (zerosLike (c .lent .system))
+  refusedSingle k i = singleOf (markAs k i 0 0) (zerosLike (c .lent .vector)) (zerosLike (c .lent .system))
 
   -- what holds of both holds of every job
   pub by-check : (P : Single → Type 0) → (checkedCall c ≡ Clean → P ranSingle) → ((k i : ℕ) → checkedCall c ≡ Faulty k i → P (refusedSingle k i)) → P (alone c)

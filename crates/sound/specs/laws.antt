@@ -1,0 +1,2 @@
+-- What holds of causes and refusals, and of every call: read Promises.
+pub mod Causes
