@@ -1,4 +1,5 @@
 // The jobs, one after the other: each by itself on its own sheet, its vector written in its place, and its cause found on the system that it left.
+use crate::causes;
 use options::Options;
 ghost use mathlib.Core.Path.{_≡_};
 ghost use mathlib.Core.List.{_++_};
