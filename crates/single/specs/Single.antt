@@ -20,7 +20,7 @@ markAs number place passes behind = record { number = number; place = place; pas
 
 -- "A job refused by 6 to 10 is counted under its number, with 0 passes"
 unfoldable pub markOf : Outcome → Mark
-markOf r = markAs (numberOf r) (numbersOf r .place) (numbersOf r .passes) 0
+markOf r = markAs (numberOf r) (numbersOf r .place) (numbersOf r .passes) (numbersOf r .behind)
 
 -- what a job makes: what is written down for it, its vector, and the last system stamped whole
 pub record Single : Type 0 where

@@ -9,7 +9,7 @@ ghost use Rattle.single.specs.Single.{markOf, dcCall, markedOf, markedRu
 use engine::Outcome;
 use options::Options;
 
-// What is written down for a job: its verdict or its refusal, the faulty record's place, and the passes solved.
+// What is written down for a job: its verdict or its refusal, the faulty record's place, and the passes solved; and the first diode that is behind in its vector, 0 for none, else 1 and the record's place.
 pub struct Mark {
     pub number: u64,
     pub place: u64,
@@ -74,7 +74,7 @@ fn marked(r: Outcome) -> Mark
             number: e.verdict as u64,
             place: 0,
             passes: e.passes,
-            behind: 0,
+            behind: e.behind,
         },
     }
 }
