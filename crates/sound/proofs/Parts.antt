@@ -3,7 +3,7 @@ use Prim.Native.Nat.{ℕ, _+_, _*_, _/_, _≤_}
 use mathlib.Core.Path.{_≡_, ap, _∙_}
 use mathlib.Core.List.{List, [], _++_}
 use native.Mathlib.Omega.{arith}
-use lib.ListN.{length, take, drop, length-drop}
+use lib.ListN.{length, take, drop, length-append, length-drop}
 use lib.Seq.{length-take-le}
 use lib.Ieee.{Float}
 use Rattle.options.specs.declared.Options.{Options}
@@ -45,3 +45,7 @@ placed o nodes sources bytes j u w sheets points tolerances b s e y vectors v l 
   where
     part : {A : Type 0} (k i : ℕ) (l : List A) → i + k ≤ length l → length (take k (drop i l)) ≡ k
     part k i l h = length-take-le k (drop i l) (rw (length-drop i l) (omega arith))
+
+-- a part at the front, of the same length as before, leaves the whole as long as it was
+pub same-whole : {A : Type 0} (k : ℕ) (b b′ : List A) → length b′ ≡ length (take k b) → k ≤ length b → length (b′ ++ drop k b) ≡ length b
+same-whole k b b′ h g = length-append b′ (drop k b) ∙ (rw (h, length-take-le k b g, length-drop k b) (omega arith))
