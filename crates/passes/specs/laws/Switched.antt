@@ -1,15 +1,12 @@
 -- Stamping, solving and asking for diodes that are behind do not look at the switch `catchup`. Clients cite behind-same and attempts-same. Assumes nothing.
-use Prim.Native.Nat.{ℕ, zero, suc, _+_}
+use Prim.Native.Nat.{ℕ}
 use mathlib.Core.Path.{_≡_, refl, ap}
-use mathlib.Core.Bool.{Bool, false, cond}
+use mathlib.Core.Bool.{Bool, cond}
 use mathlib.Core.List.{List}
 use lib.Dec.{eqb}
-use lib.ListN.{getD}
-use lib.Ieee.{Float, nan}
-use Rattle.numbers.specs.Kinds.{diode}
+use lib.Ieee.{Float}
 use Rattle.loops.specs.laws.Loop.{turns-ext}
 use Rattle.options.specs.declared.Options.{Options}
-use Rattle.convergence.specs.Convergence.{limit}
 use Rattle.sheet.specs.declared.Element.{Element}
 use Rattle.sheet.specs.declared.Element.the-variants.{R, I, «V», D, Isin, Vsin, Vpwl, C, Vcvs, Vccs}
 use Rattle.sheet.specs.declared.Decoded.{Decoded}
@@ -17,12 +14,10 @@ use Rattle.sheet.specs.declared.Decoded.the-variants.{Good, Refused}
 use Rattle.sheet.specs.Check.{recordsOf}
 use Rattle.models.specs.Diode.{thermal, linearized}
 use Rattle.groups.specs.declared.Pass.{Pass}
-use Rattle.groups.specs.Records.{elementAt, onRecord, recordIn}
+use Rattle.groups.specs.Records.{elementAt, onRecord}
 use Rattle.groups.specs.Diodes.{Stamped, stampedOf, biased, biasedAt, diodesOf}
 use Rattle.groups.specs.Stamping.{linearOf, stampOf}
-use Rattle.behind.specs.declared.Behind.{Behind}
-use Rattle.behind.specs.declared.Behind.the-variants.{At}
-use Rattle.behind.specs.Behind.{caughtUp, diodeBehind, behindAt, firstFrom, firstBehind, numberOf, behindNumber}
+use Rattle.behind.specs.Behind.{firstBehind, behindNumber}
 use Rattle.steps.specs.declared.Counters.{Counters}
 use Rattle.steps.specs.laws.Switched.{withCatchup}
 use Rattle.machine.specs.State.{Buffers, Attempted}
@@ -73,31 +68,9 @@ module _ (o : Options) (w v : ℕ) where
 
   -- ---- diodes as they are asked
 
-  diode-same : (x : List Float) (y : Float) (e : Element) → diodeBehind here x y e ≡ diodeBehind there x y e
-  unfolding diodeBehind caughtUp limit
-  diode-same x y (R p q a) = refl
-  diode-same x y (I p q a) = refl
-  diode-same x y («V» p q a s) = refl
-  diode-same x y (D p q a b) = refl
-  diode-same x y (Isin p q a b z) = refl
-  diode-same x y (Vsin p q a b z s) = refl
-  diode-same x y (Vpwl p q a b f k s) = refl
-  diode-same x y (C p q a) = refl
-  diode-same x y (Vcvs p q cp cq a s) = refl
-  diode-same x y (Vccs p q cp cq a) = refl
-
-  at-same : (sheet : List ℕ) (x memory : List Float) (i : ℕ) → behindAt here sheet x memory i ≡ behindAt there sheet x memory i
-  unfolding behindAt
-  at-same sheet x memory i = decoded-same (diodeBehind here x (getD memory i nan)) (diodeBehind there x (getD memory i nan)) false (diode-same x (getD memory i nan)) (recordIn diode diode sheet i)
-
-  first-same : (f g : ℕ → Bool) → ((i : ℕ) → f i ≡ g i) → (n i : ℕ) → firstFrom f n i ≡ firstFrom g n i
-  unfolding firstFrom
-  first-same f g h zero i = refl
-  first-same f g h (suc n) i = rw (h i, first-same f g h n (i + 1))
-
   pub behind-same : (sheet : List ℕ) (x memory : List Float) → behindNumber here sheet x memory ≡ behindNumber there sheet x memory
   unfolding behindNumber firstBehind
-  behind-same sheet x memory = ap numberOf (first-same (behindAt here sheet x memory) (behindAt there sheet x memory) (at-same sheet x memory) (recordsOf sheet) 0)
+  behind-same sheet x memory = refl
 
   -- ---- the attempt
 
