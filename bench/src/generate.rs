@@ -16,6 +16,8 @@ pub enum Sort {
     HotDiodes,
     FastSines,
     Damaged,
+    /// Diodes everywhere, for the jobs that wait.
+    Clamped,
 }
 
 fn sort(r: &mut Random) -> Sort {
@@ -283,6 +285,34 @@ pub fn job(seed: u64, place: u64) -> (Job, Sort) {
     (make(&mut r, sort), sort)
 }
 
+/// The job of a seed and a place with the option on: half of them the sorts above, half with diodes everywhere.
+pub fn waiting(seed: u64, place: u64) -> (Job, Sort) {
+    let mut r = Random::new(seed ^ 0x4341_5443_4855_5021, place);
+    let sort = if r.one_in(2) { sort(&mut r) } else { Sort::Clamped };
+    let mut job = make(&mut r, sort);
+    if !r.one_in(4) {
+        loosen(&mut r, &mut job.options);
+    }
+    job.options.catchup = on(&mut r);
+    (job, sort)
+}
+
+/// The option on: any word but 0.
+pub fn on(r: &mut Random) -> u64 {
+    match r.below(8) {
+        0 => r.next().max(1),
+        1 => r.pick(&[2, 1 << 32, 1 << 63, u64::MAX]),
+        _ => 1,
+    }
+}
+
+/// Tolerances so wide that vectors agree before diodes have caught up. VNTOL, which these are asked by too, is wide less often.
+pub fn loosen(r: &mut Random, o: &mut Options) {
+    o.reltol = r.pick(&[1e-3, 1e-3, 0.01, 0.1, 0.5]);
+    o.vntol = r.pick(&[1e-6, 1e-6, 1e-3, 0.05, 1.0]);
+    o.abstol = r.pick(&[1e-6, 1e-3, 0.1, 10.0]);
+}
+
 /// A job of one sort.
 pub fn make(r: &mut Random, sort: Sort) -> Job {
     let unknowns = size(r);
@@ -301,6 +331,7 @@ pub fn make(r: &mut Random, sort: Sort) -> Job {
     for _ in 0..count {
         let mut kind = match sort {
             Sort::HotDiodes if m.r.one_in(3) => 4,
+            Sort::Clamped if m.r.one_in(2) => 4,
             Sort::FastSines if m.r.one_in(3) => 5 + m.r.below(2) as u8,
             _ => m.r.pick(&[1, 1, 1, 2, 3, 3, 4, 4, 5, 6, 7, 7, 8, 8, 9, 10]),
         };

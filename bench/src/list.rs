@@ -35,10 +35,10 @@ fn quota(job: &Job, answer: &Answer) -> (String, u64) {
     (key, most)
 }
 
-/// The oracle's answer: the Rust's own where it has one, else the model's; they must agree.
+/// The oracle's answer: the Rust's own where it has one, else the model's; they must agree. The Rust has none where a pass waits.
 pub fn answer(job: &Job) -> Answer {
-    let answer = model::run(job, &OURS, Wrong::Nothing);
-    if answer.refusal != 0 {
+    let (answer, held) = model::run_held(job, &OURS, Wrong::Nothing);
+    if answer.refusal != 0 || held != 0 {
         return answer;
     }
     let (rust, stopped) = hooked::run(job, &OURS);

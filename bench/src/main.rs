@@ -1,5 +1,6 @@
 //! The differential bench: the shipped engine against the published Rust and a plain model.
 
+mod behind;
 mod compare;
 mod directed;
 #[cfg_attr(not(archive), path = "no_door.rs")]
@@ -51,7 +52,7 @@ fn conclude(differences: u64) -> u64 {
 
 const USAGE: &str = "usage: bench run SEED COUNT FOLDER | directed | show | leaves SEED COUNT | jobs SEED COUNT FOLDER
     | job SEED PLACE | find READING SEED COUNT | list SEED FILE [FORM] | list-budget FILE | list-spreads SEED FILE
-    | replay FILE | speed | time [ROW [FILE]] | spreads SEED CALLS | spread SEED PLACE | spreads-speed FOLDER FILE";
+    | replay FILE | speed | time [ROW [FILE]] | spreads SEED CALLS | spread SEED PLACE | sound-spread SEED PLACE | spreads-speed FOLDER FILE";
 
 fn main() {
     quiet_panics();
@@ -85,7 +86,8 @@ fn main() {
         "time" => speed::time(args.get(1).map(|_| number(1, 0) as usize), text(2, "-")),
         "spreads" => conclude(spreads::run(seed(), number(2, 1000))),
         "spreads-speed" => spreads_speed::run(text(1, "-"), text(2, "-")),
-        "spread" => spreads::show_one(seed(), number(2, 0)),
+        "spread" => spreads::show_one(seed(), number(2, 0), false),
+        "sound-spread" => spreads::show_one(seed(), number(2, 0), true),
         _ => {
             eprintln!("{}", USAGE);
             1
