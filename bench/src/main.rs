@@ -51,7 +51,7 @@ fn conclude(differences: u64) -> u64 {
 }
 
 const USAGE: &str = "usage: bench run SEED COUNT FOLDER | directed | show | leaves SEED COUNT | jobs SEED COUNT FOLDER
-    | job SEED PLACE | find READING SEED COUNT | list SEED FILE [FORM] | list-budget FILE | list-spreads SEED FILE
+    | job SEED PLACE | waiting-job SEED PLACE | find READING SEED COUNT | list SEED FILE [FORM] | list-budget FILE | list-spreads SEED FILE
     | replay FILE | speed | time [ROW [FILE]] | spreads SEED CALLS | spread SEED PLACE | sound-spread SEED PLACE | spreads-speed FOLDER FILE";
 
 fn main() {
@@ -69,7 +69,8 @@ fn main() {
         "show" => directed::show_all(),
         "leaves" => leaves::run(seed(), count()),
         "jobs" => jobs::run(seed(), count(), text(3, ".")),
-        "job" => jobs::show_one(seed(), number(2, 0)),
+        "job" => jobs::show_one(seed(), number(2, 0), false),
+        "waiting-job" => jobs::show_one(seed(), number(2, 0), true),
         "find" => directed::find(number(1, 0) as usize, number(2, 1), number(3, 100_000)),
         "list" => match number(3, 1) {
             1 => list::write(seed(), text(2, "answers.bin"), Form::One),
