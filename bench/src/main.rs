@@ -31,6 +31,7 @@ mod spread_rules;
 mod spreads;
 mod spreads_speed;
 mod tally;
+mod waiting;
 
 use form::Form;
 
