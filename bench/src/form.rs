@@ -387,15 +387,15 @@ mod tests {
         for (job, answer) in list() {
             let answer = answer.unwrap();
             let pairs = [
-                (job.bytes(Form::One), job.bytes(Form::Two), JOB_1, JOB_KNOWN),
+                (job.bytes(Form::One), job.bytes(Form::Two), JOB_1, JOB_1),
                 (answer.bytes(&job, Form::One), answer.bytes(&job, Form::Two), ANSWER_1, ANSWER_KNOWN),
             ];
-            for (one, two, old, known) in pairs {
+            for (one, two, old, written) in pairs {
                 assert_eq!(word(&one, 0), Some(one.len() as u64));
                 assert_eq!(word(&two, 0), Some(two.len() as u64));
-                assert_eq!(word(&two, 1), Some(known as u64 + 1));
+                assert_eq!(word(&two, 1), Some(written as u64 + 1));
                 assert_eq!(two[16..8 * old + 8], one[8..8 * old]);
-                assert_eq!(two[8 * known + 8..], one[8 * old..]);
+                assert_eq!(two[8 * written + 8..], one[8 * old..]);
             }
         }
     }
@@ -415,6 +415,63 @@ mod tests {
             *w = 0;
         }
         assert_eq!(Job::read(&resized(&two, JOB_1 + 1, 0), Form::Two).unwrap().options.words(), words);
+    }
+
+    #[test]
+    fn the_option_is_word_30_of_jobs_and_spreads_and_the_diode_word_14_of_answers() {
+        let (mut job, answer) = list().into_iter().find(|(_, a)| a.as_ref().unwrap().behind != Some(0)).unwrap();
+        job.options.catchup = 1 << 63;
+        assert_eq!(word(&job.bytes(Form::Two), 30), Some(1 << 63));
+        let mut call = spread_calls::call(7, 0);
+        call.options.catchup = 77;
+        assert_eq!(word(&call.bytes(Form::Two), 30), Some(77));
+        assert_eq!(Call::read(&call.bytes(Form::Two)).unwrap().options.catchup, 77);
+        let answer = answer.unwrap();
+        let two = answer.bytes(&job, Form::Two);
+        assert_eq!(word(&two, 14), answer.behind);
+        assert_eq!(Answer::read(&two, &job, Form::Two).unwrap().behind, answer.behind);
+        // one that does not tell it
+        let untold = Answer { behind: None, ..answer.clone() }.bytes(&job, Form::Two);
+        assert_eq!((word(&untold, 1), untold.len() + 8), (Some(14), two.len()));
+        assert_eq!(Answer::read(&untold, &job, Form::Two).unwrap().behind, None);
+        assert_eq!(Answer::read(&answer.bytes(&job, Form::One), &job, Form::One).unwrap().behind, None);
+    }
+
+    #[test]
+    fn tolerances_stand_behind_the_points() {
+        for place in 0..200 {
+            let call = spread_calls::sound_call(7, place);
+            if call.jobs >= 1000 || call.unknowns() >= 100 {
+                continue;
+            }
+            let bytes = call.bytes(Form::Two);
+            let read = Call::read(&bytes).unwrap();
+            assert_eq!((&read.sheets, &read.points), (&call.sheets, &call.points));
+            let bits = |c: &Call| c.tolerances.iter().map(|t| t.to_bits()).collect::<Vec<u64>>();
+            assert_eq!((bits(&read), read.options.catchup), (bits(&call), call.options.catchup));
+            assert_eq!(read.bytes(Form::Two), bytes);
+            if !call.tolerances.is_empty() {
+                assert_eq!(word(&bytes, 25), Some(call.tolerances.len() as u64));
+                assert!(Call::read(&bytes[..bytes.len() - 8]).is_none());
+                for count in [call.tolerances.len() as u64 + 1, 1 << 61, u64::MAX] {
+                    assert!(Call::read(&with_word(&bytes, 25, count)).is_none());
+                }
+            }
+            // what a job has there a call has not
+            let grown = regrown(&bytes, 31, 0);
+            for i in 26..30 {
+                assert!(Call::read(&with_word(&grown, i, 1)).is_none());
+            }
+            assert!(Call::read(&grown).is_some());
+        }
+    }
+
+    #[test]
+    #[should_panic(expected = "form 1 has no place")]
+    fn form_1_has_no_option() {
+        let (mut job, _) = list().swap_remove(0);
+        job.options.catchup = 1;
+        job.bytes(Form::One);
     }
 
     #[test]
@@ -494,7 +551,7 @@ mod tests {
                 assert!(Call::read(&with_word(&two, 1, count)).is_none());
             }
             assert_eq!(Call::read(&regrown(&two, 64, 0)).unwrap().bytes(Form::One), one);
-            assert!(Call::read(&regrown(&two, SPREADS_KNOWN + 2, 1)).is_none());
+            assert!(Call::read(&regrown(&two, JOB_KNOWN + 2, 1)).is_none());
             assert_eq!(Call::read(&regrown(&two, 24, 0)).unwrap().unknown, 0);
         }
     }

@@ -24,6 +24,16 @@ fn pulse() -> Build {
         .set(|o| o.rmin = 1e-3)
 }
 
+/// The same with too few passes for a step that waits.
+fn cut() -> Build {
+    pulse().set(|o| (o.itl4, o.ft, o.tstop) = (3, 0.25, 0.02))
+}
+
+/// The same with a sine that is refused in the second step.
+fn sine() -> Build {
+    pulse().isin(2, 0, 0.0, 0.0, 1e5)
+}
+
 /// The same with the level there from the start: DC settles falsely, and the steps catch up.
 fn steady() -> Build {
     Build::transient(3, 1, 3.0).v(1, 0, 5.0, 0).r(1, 2, 1000.0).d(2, 0, 1e-12, 27.0)
@@ -114,7 +124,7 @@ fn transients() -> Vec<Case> {
     vec![
         ("a step settles falsely, off", pulse().job(), None),
         ("a step waits, on", on(pulse()).job(), None),
-        ("a step is cut by waiting", on(pulse()).set(|o| (o.itl4, o.ft) = (3, 0.25)).job(), None),
+        ("a step is cut by waiting", on(cut()).job(), None),
         ("the step is too small by waiting", on(pulse()).set(|o| (o.itl4, o.ft, o.rmin) = (3, 0.25, 0.3)).job(), None),
         ("budget spent by waiting in a step", on(pulse()).set(|o| o.budget = 4).job(), ended(24, 4, 3)),
         ("no room after waiting", on(pulse()).rows(1).job(), None),
@@ -123,7 +133,8 @@ fn transients() -> Vec<Case> {
         ("DC has settled falsely, the last vector has not", steady().job(), None),
         ("DC has not settled falsely, the last vector has", pulse().set(|o| o.tstop = 0.5).job(), None),
         ("DC has used up its passes by waiting, and the steps go on", on(steady()).set(|o| o.itl1 = 1).job(), None),
-        ("26 while a diode is behind", on(pulse().isin(2, 0, 0.0, 0.0, 7e4)).set(|o| o.tstop = 9.0).job(), None),
+        ("26 while a diode is behind, off", sine().job(), None),
+        ("26 after waiting, on", on(sine()).job(), None),
         ("an empty transient, on", on(Build::transient(1, 0, 3.0)).job(), None),
     ]
 }
@@ -192,7 +203,7 @@ fn tellers() -> Vec<(Wrong, Job)> {
         (Wrong::BelowTolerance, at().job()),
         (Wrong::NanCaughtUp, nan_level().job()),
         (Wrong::AbstolForDiodes, on(pulse()).set(|o| o.abstol = 10.0).job()),
-        (Wrong::WaitingIsFree, on(pulse()).set(|o| (o.itl4, o.ft) = (3, 0.25)).job()),
+        (Wrong::WaitingIsFree, on(cut()).job()),
         (Wrong::BehindOfDc, pulse().set(|o| o.tstop = 0.5).job()),
     ]
 }
