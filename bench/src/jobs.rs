@@ -229,8 +229,14 @@ impl Behind {
         println!("  runs that name a diode: {} settled, {} others", settled, others);
         let [dc, transient] = self.waited;
         if dc + transient > 0 {
-            println!("  held back at least once: {} jobs, {} DC and {} transient, {} passes in all; they end with {}",
-                dc + transient, dc, transient, self.passes, self.waited_to.line());
+            println!(
+                "  held back at least once: {} jobs, {} DC and {} transient, {} passes in all; they end with {}",
+                dc + transient,
+                dc,
+                transient,
+                self.passes,
+                self.waited_to.line()
+            );
         }
     }
 }

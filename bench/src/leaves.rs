@@ -481,7 +481,10 @@ fn late(r: &mut Random) -> Trial {
     let mut answers = vec![("second writing", vec![a as f64])];
     answers.extend(door::behind(&sheet, &vector, &memory, &o).map(|b| ("shipped", vec![b as f64])));
     Trial {
-        input: format!("sheet {:?}, vector {:?}, memory {:?}, RELTOL {:?}, VNTOL {:?}", sheet, vector, memory, o.reltol, o.vntol),
+        input: format!(
+            "sheet {:?}, vector {:?}, memory {:?}, RELTOL {:?}, VNTOL {:?}",
+            sheet, vector, memory, o.reltol, o.vntol
+        ),
         answers,
         sort: (if a == 0 { "none" } else { "a record named" }).to_string(),
     }

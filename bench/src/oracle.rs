@@ -106,7 +106,8 @@ pub mod hooked {
         }
         a.buffers[ROWS][..seen.record.rows.len()].copy_from_slice(&seen.record.rows);
         // the Rust does not ask, but it has the vector and the memory
-        let behind = behind::first(&job.sheet, &a.buffers[VECTOR][..n], &a.buffers[MEMORY], &job.options, Wrong::Nothing);
+        let behind =
+            behind::first(&job.sheet, &a.buffers[VECTOR][..n], &a.buffers[MEMORY], &job.options, Wrong::Nothing);
         a.behind = Some(behind);
         (a, seen.stopped)
     }

@@ -207,13 +207,8 @@ pub fn sound_directed() -> Vec<Call> {
         }
     }
     // 13, 1, 2, 3 and 4 go before 5
-    let faults: [fn(&mut Call); 5] = [
-        |c| c.unknown = 4,
-        |c| c.nodes = 0,
-        |c| c.jobs -= 1,
-        |c| c.points.push(0),
-        |c| c.options.budget = 0,
-    ];
+    let faults: [fn(&mut Call); 5] =
+        [|c| c.unknown = 4, |c| c.nodes = 0, |c| c.jobs -= 1, |c| c.points.push(0), |c| c.options.budget = 0];
     for fault in faults {
         let mut call = Call { tolerances: vec![0.0; n - 1], ..one.clone() };
         fault(&mut call);
@@ -241,8 +236,7 @@ fn mixed() -> Call {
         diode(0.5, 1e-12),
     ];
     let sheets = jobs.iter().flat_map(|j| j.sheet.clone()).collect();
-    let mut call =
-        Call { sound: true, jobs: jobs.len(), nodes: 3, sources: 1, unknown: 2, sheets, ..Call::empty() };
+    let mut call = Call { sound: true, jobs: jobs.len(), nodes: 3, sources: 1, unknown: 2, sheets, ..Call::empty() };
     call.fit();
     call
 }
