@@ -65,9 +65,8 @@ enum savrunte_cause {
 
 /* ---- options and answers, all by value ---- */
 
-/* Any float bits are allowed. GMIN, BOLTZMANN and CHARGE of the Rust engine: 1e-12, 1.3806488e-23, 1.603e-19.
- * catchup is 0 for off, anything else for on: then a pass that would settle goes on as if it had not, and counts as such, while a
- * diode is behind in the vector just solved. Off, every bit is that of the Rust engine. */
+/* Any float bits are allowed. GMIN, BOLTZMANN and CHARGE of the Rust engine: 1e-12, 1.3806488e-23, 1.603e-19. catchup is 0 for off and
+ * anything else for on: then a pass that would settle counts as one that did not while a diode is behind in the vector just solved. */
 typedef struct savrunte_options {
     double reltol, vntol, abstol, tstart, tstop, tstep, fs, ft, rmin, rmax, gmin, boltzmann, charge;
     uint64_t itl1, itl3, itl4, budget, catchup;
