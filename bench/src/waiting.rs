@@ -93,6 +93,9 @@ fn cases() -> Vec<Case> {
         ("at VNTOL alone, on", on(across(0.5)).set(|o| (o.reltol, o.vntol) = (0.0, 0.5)).job(), ended(0, 1, 0)),
         ("at the tolerance, on", on(at()).job(), ended(0, 1, 0)),
         ("at the tolerance, off", at().job(), ended(0, 1, 0)),
+        ("at the tolerance, the other way round, off", turned(at()), ended(0, 1, 0)),
+        ("at the tolerance, the other way round, on", turned(on(at())), ended(0, 1, 0)),
+        ("a float beyond it, the other way round, off", turned(beyond()), ended(0, 1, 3)),
         ("a float beyond the tolerance, on", on(beyond()).job(), ended(0, 2, 0)),
         ("a float beyond the tolerance, off", beyond().job(), ended(0, 1, 3)),
         ("no tolerance at all, on", on(smallest()).set(|o| (o.reltol, o.vntol) = (0.0, 0.0)).job(), None),
@@ -168,6 +171,17 @@ fn at() -> Build {
 /// The same, and the diode a float beyond its tolerance.
 fn beyond() -> Build {
     at().set(|o| o.reltol = f64::from_bits(0.75f64.to_bits() - 1))
+}
+
+/// With the ends of its last record, the diode, exchanged.
+fn turned(b: Build) -> Job {
+    b.with(|j| {
+        let mut elements = j.elements();
+        if let Some(e) = elements.last_mut() {
+            (e.a, e.b) = (e.b, e.a);
+        }
+        j.set_elements(&elements)
+    })
 }
 
 fn nan_level() -> Build {
