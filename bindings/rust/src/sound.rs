@@ -38,7 +38,8 @@ impl SoundLent {
     }
 }
 
-/// How the call went.
+/// How the call went. There is one for each call, so its size does not matter.
+#[allow(clippy::large_enum_variant)]
 #[derive(Clone, Debug, PartialEq)]
 pub enum Sound<'a> {
     /// The whole call was refused, and nothing was changed.
