@@ -10,7 +10,7 @@ use Rattle.options.specs.declared.Options.{Options}
 use Rattle.sheet.specs.Record.{recordBytes}
 use Rattle.machine.specs.State.{buffersOf}
 use Rattle.single.specs.declared.Mark.{Mark}
-use Rattle.single.specs.Single.{Single, singleOf, dcCall, markedOf, markedRun, alone}
+use Rattle.single.specs.Single.{singleOf, dcCall, markedOf, markedRun, alone}
 use Rattle.single.specs.laws.Alone.{marked-alone, alone-single}
 use Rattle.spreads.specs.Runs.{jobAt, ScratchRoom}
 use Rattle.sound.specs.declared.causes.Cause.{Cause}

@@ -15,7 +15,7 @@ use Rattle.spreads.specs.laws.Refusals.{CallFine}
 use Rattle.spreads.specs.laws.Jobs.{value-back, value-sound}
 use Rattle.sound.specs.declared.reports.Reports.{Reports}
 use Rattle.sound.specs.declared.Soundings.the-variants.{Done}
-use Rattle.sound.specs.Reports.{Summed, summedOf, reportsOf, bothOver}
+use Rattle.sound.specs.Reports.{summedOf, reportsOf, bothOver}
 use Rattle.sound.specs.Sound.{resultsOf, Call, batchIn, lengths, jobOf, causedOf, soundResultOf, doneOf, ranLeft}
 use Rattle.sound.specs.laws.Causes.{sound-settled}
 

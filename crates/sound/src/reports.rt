@@ -3,11 +3,10 @@ use numbers::limit::JOBS;
 use numbers::limit::SUM_LIMBS;
 use tally::Report;
 ghost use mathlib.Core.Path.{_≡_};
-ghost use mathlib.Core.List.{_++_};
 ghost use Prim.Native.Nat.{_≤_};
-ghost use lib.ListN.{length, drop};
+ghost use lib.ListN.{length};
 ghost use Rattle.numbers.specs.Limits.{sumLimbs, mostJobs};
-ghost use Rattle.tally.specs.Tally.{numberIn, valueIn, totalsOver, Summable};
+ghost use Rattle.tally.specs.Tally.{numberIn, valueIn, Summable};
 ghost use Rattle.sound.specs.Reports.{summedOf, bothOver};
 
 // Over the settled jobs, and over the sound ones: in the second `settled` counts the sound jobs.

@@ -1,7 +1,7 @@
 -- What every call of sound spreads keeps, whatever its input, as one theorem over the result in the contract: read Kept, then OfReports, OfJob and SoundJob. Refused, by 13 or 1 to 5, and every result buffer is as it was (the scratch by `ScratchKept` in the
 -- contract); or done, and then each job has the one cause that holds of it, the counts and both reports are those of the returned lists, and the part over the settled jobs is what `spreads` answers.
 -- Clients cite SoundJob, OfJob, AsSpreads, OfReports, OfRefusal, Kept, every-call, of-call and runs. Assumes nothing.
-use Prim.Native.Nat.{ℕ, _+_, _*_, _≤_, _<_}
+use Prim.Native.Nat.{ℕ, _+_, _*_, _<_}
 use mathlib.Core.Path.{_≡_, refl, sym, ap, _∙_, subst}
 use mathlib.Core.Bool.{Bool, true, false, cond}
 use mathlib.Core.List.{List, _++_}
@@ -21,7 +21,6 @@ use Rattle.exact.specs.laws.Limbs.{length-limbs}
 use Rattle.judge.specs.declared.Judged.the-variants.{Accepted}
 use Rattle.judge.specs.Judge.{judgeOf}
 use Rattle.judge.specs.laws.Judge.{Within, accepts-only}
-use Rattle.single.specs.Single.{Single}
 use Rattle.single.specs.laws.Promises.{single-number, system-length}
 use Rattle.tally.specs.Tally.{numberIn, valueIn, howMany, summed, sumOf, Totals, totalsOf, totalsOver}
 use Rattle.tally.specs.laws.Report.{summed-same, adds-up}

@@ -8,7 +8,6 @@ use native.Mathlib.Omega.{arith}
 use borrow.Author.Tests.{eqb-true, eqb-false, eq-eqb, ltb-false, le-ltb}
 use lib.Dec.{eqb, ltb}
 use Rattle.numbers.specs.Limits.{jobCauses, sumLimbs}
-use Rattle.numbers.specs.Refusals.{byRoom}
 use Rattle.options.specs.declared.Options.{Options}
 use Rattle.checks.specs.laws.Checks.{cond-none}
 use Rattle.spreads.specs.declared.refusals.Lent.{Lent}
