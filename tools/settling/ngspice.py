@@ -1,0 +1,59 @@
+#!/usr/bin/env python3
+"""Holds the spreads of examples/spreads.jobs against ngspice, job by job and by their means: tools/settling/ngspice.py [--write]. It wants Debian's package ngspice.
+
+Every spread becomes a netlist of its own. A diode gets its saturation current and the temperature at which ngspice has our thermal voltage, by ngspice's own constants, and nothing else.
+ngspice's tolerances are far below any of ours, and so is the conductance that it puts beside each diode. Spreads that do not settle with the option on (refused, or without an operating point) are
+left out and counted. The status is 1 where a mean with the option on is farther from ngspice's than the limits below, or where docs/SETTLING.md has another table; --write puts the table there.
+"""
+import struct
+import subprocess
+import sys
+import tempfile
+
+from runs import SETS, Spreads, compare, job_by_job, mean, table
+
+# how far the means may be apart with the option on, at the loosest tolerances and at the tightest
+LOOSEST, TIGHTEST = 1e-5, 1e-6
+# a job is far from ngspice beyond this many volts: far above what tolerances do, far below what a diode left behind does
+FAR = 0.01
+OPTIONS = '.options reltol=1e-10 vntol=1e-12 abstol=1e-16 gmin=1e-20 itl1=1000'
+
+
+def spice(text):
+    """What ngspice says to a netlist."""
+    with tempfile.NamedTemporaryFile('w', suffix='.cir') as f:
+        f.write(text)
+        f.flush()
+        return subprocess.run(['ngspice', '-b', f.name], stdin=subprocess.DEVNULL, capture_output=True, text=True).stdout
+
+
+def number(said, name):
+    """The number that ngspice has printed under this name."""
+    return float(next(line for line in said.splitlines() if line.startswith(name + ' = ')).split(' = ')[1])
+
+
+def scale():
+    """Kelvin for each volt of thermal voltage, and the Celsius scale's zero, by ngspice's constants; and its version."""
+    said = spice('* constants\n.control\nset numdgt=17\nprint const.boltz const.echarge const.kelvin\nversion\nquit\n.endc\n.end\n')
+    version = next(word for word in said.split() if word.startswith('ngspice-'))
+    return number(said, 'const.echarge') / number(said, 'const.boltz'), number(said, 'const.kelvin'), version
+
+
+def card(k, record, celsius):
+    """Record k as ngspice has it; celsius(tdegc) is the temperature of a diode there."""
+    kind, _, p, n, cp, cn, _, _, _, x, y, _ = struct.unpack('<BBHHHHHHH3d', record)
+    if kind == 4:
+        return f'd{k} {p} {n} m{k} temp={celsius(y)!r}\n.model m{k} d(is={x!r} tnom={celsius(y)!r})\n'
+    if kind == 7:
+        # at time 0, before its delay, a pattern is at 0
+        assert x > 0.0
+        return f'v{k} {p} {n} 0\n'
+    letter = {1: 'r', 2: 'i', 3: 'v', 5: 'i', 6: 'v', 8: 'c', 9: 'e', 10: 'g'}[kind]
+    controls = f' {cp} {cn}' if kind > 8 else ''
+    return f'{letter}{k} {p} {n}{controls} {x!r}\n'
+
+
+def output(sheet, node, celsius):
+    """The voltage that ngspice has for this node of this spread."""
+    cards = ''.join(card(k, sheet[40 * k:40 * k + 40], celsius) for k in range(len(sheet) // 40))
+    return number(spice(f'* a spread\n{cards}{OPTIONS}\n.control\nset numdgt=17\nop\nprint v({node})\nquit\n.endc\n.end\n'), f'v({node})')
