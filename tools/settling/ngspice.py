@@ -3,19 +3,24 @@
 
 Every spread becomes a netlist of its own. A diode gets its saturation current and the temperature at which ngspice has our thermal voltage, by ngspice's own constants, and nothing else.
 ngspice's tolerances are far below any of ours, and so is the conductance that it puts beside each diode. Spreads that do not settle with the option on (refused, or without an operating point) are
-left out and counted. The status is 1 where a mean with the option on is farther from ngspice's than the limits below, or where docs/SETTLING.md has another table; --write puts the table there.
+left out and counted. The status is 1 where a mean with the option on is farther from ngspice's than the limits below, where the jobs that are far from ngspice are not just those that are named behind, or
+where docs/SETTLING.md has another table; --write puts the table there.
 """
+import shutil
 import struct
 import subprocess
 import sys
 import tempfile
+from math import fsum
 
-from runs import SETS, Spreads, compare, job_by_job, mean, table
+sys.dont_write_bytecode = True
+from runs import BEHIND, SETS, SOUND, Report, Spreads, compare_table, table  # noqa: E402
 
 # how far the means may be apart with the option on, at the loosest tolerances and at the tightest
 LOOSEST, TIGHTEST = 1e-5, 1e-6
 # a job is far from ngspice beyond this many volts: far above what tolerances do, far below what a diode left behind does
 FAR = 0.01
+HEAD = ['RELTOL', 'VNTOL', 'ABSTOL', '`catchup`', 'mean here, V', 'mean of ngspice, V', 'means apart, V', 'farthest job, V', 'jobs beyond 0.01 V', 'jobs named behind']
 OPTIONS = '.options reltol=1e-10 vntol=1e-12 abstol=1e-16 gmin=1e-20 itl1=1000'
 
 
@@ -57,3 +62,43 @@ def output(sheet, node, celsius):
     """The voltage that ngspice has for this node of this spread."""
     cards = ''.join(card(k, sheet[40 * k:40 * k + 40], celsius) for k in range(len(sheet) // 40))
     return number(spice(f'* a spread\n{cards}{OPTIONS}\n.control\nset numdgt=17\nop\nprint v({node})\nquit\n.endc\n.end\n'), f'v({node})')
+
+
+def apart(volts):
+    """A difference; below what ngspice's own digits carry it is only said to be below."""
+    return 'below 1e-12' if volts < 1e-12 else f'{volts:.1e}'.replace('e-0', 'e-') if volts < 0.01 else f'{volts:.3f}'
+
+
+def row(tolerances, on, theirs):
+    """The row of these tolerances, and what is wrong with it. theirs: ngspice's outputs by job."""
+    report = Report(spreads.written(tolerances, on))
+    ours = {k: report.jobs[k].value for k in theirs}
+    mean, mean_there = (fsum(all.values()) / len(all) for all in (ours, theirs))
+    far = {k for k in theirs if not abs(ours[k] - theirs[k]) <= FAR}
+    named = {k for k, job in enumerate(report.jobs) if job.cause == BEHIND}
+    wrong = 'the jobs far from ngspice are not those named behind' if far != named else ''
+    if on and not abs(mean - mean_there) <= (TIGHTEST if tolerances == SETS[-1] else LOOSEST):
+        wrong = 'the means are too far apart'
+    cells = [f'{mean:.7f}', f'{mean_there:.7f}', apart(abs(mean - mean_there)), apart(max(abs(ours[k] - theirs[k]) for k in theirs)), str(len(far)), str(len(named))]
+    return [*tolerances, 'on' if on else 'off', *cells], wrong
+
+
+def main():
+    if shutil.which('ngspice') is None:
+        sys.exit('ngspice.py: ngspice is wanted, on Debian by apt-get install ngspice')
+    kelvin, zero, version = scale()
+    final = Report(spreads.written(SETS[-1], True)).jobs
+    theirs = {k: output(spreads.sheets[k], spreads.unknown, lambda tdegc: spreads.boltzmann * (363.0 + tdegc) / spreads.charge * kelvin + zero)
+              for k, job in enumerate(final) if job.cause == SOUND}
+    print(f'{version}: {len(theirs)} jobs of {spreads.jobs}; left out: ' + ', '.join(f'job {k} ({job.cause})' for k, job in enumerate(final) if job.cause != SOUND))
+    rows = [row(tolerances, on, theirs) for tolerances in SETS for on in (False, True)]
+    status = compare_table(table(HEAD, [cells for cells, _ in rows]))
+    for cells, wrong in rows:
+        if wrong:
+            print(*cells[:4], wrong, sep=', ')
+    return max(status, *(wrong != '' for _, wrong in rows))
+
+
+if __name__ == '__main__':
+    spreads = Spreads()
+    sys.exit(main())

@@ -1,12 +1,13 @@
 """The spreads of examples/spreads.jobs with other tolerances and the option `catchup` off or on: written as a file of spreads, run by ./savrunte --tsv, and its records read (docs/FORMATS.md).
 
-Also what the scripts beside this one share: a table in docs/SETTLING.md, held against the one just made or replaced by it.
+Also what the scripts beside this one share: a part of docs/SETTLING.md, held against the one just made or replaced by it.
 """
 import re
 import struct
 import subprocess
 import sys
 import tempfile
+from collections import namedtuple
 from pathlib import Path
 
 from catchup import SPREADS, switched
@@ -42,19 +43,43 @@ class Spreads:
         return switched(bytes(data), on)
 
 
-def records(content):
-    """What ./savrunte --tsv says of a file of spreads: the records of each kind, each by the names of its fields."""
+def program(*form, content):
+    """The lines that ./savrunte writes of a file of spreads, in this form."""
     with tempfile.NamedTemporaryFile(suffix='.jobs') as f:
         f.write(content)
         f.flush()
-        lines = subprocess.run([TOP / 'savrunte', '--tsv', 'spreads', f.name], stdout=subprocess.PIPE, text=True, check=True).stdout.splitlines()
+        return subprocess.run([TOP / 'savrunte', *form, 'spreads', f.name], stdout=subprocess.PIPE, text=True, check=True).stdout.splitlines()
+
+
+def records(content):
+    """The records of each kind, each by the names of its fields."""
     names, kinds = {}, {}
-    for kind, *fields in (line.split('\t') for line in lines):
+    for kind, *fields in (line.split('\t') for line in program('--tsv', content=content)):
         if kind.startswith('#'):
             names[kind[1:]] = fields
         else:
             kinds.setdefault(kind, []).append(dict(zip(names[kind], fields)))
     return kinds
+
+
+# a job: its cause, its passes, and its value of the chosen unknown
+Job = namedtuple('Job', 'cause passes value')
+SOUND, BEHIND = 0, 27
+
+
+class Report:
+    """What the program reports of a file of spreads: each job, and the two means."""
+
+    def __init__(self, content):
+        said = records(content)
+        self.jobs = [Job(int(r['cause']), int(r['passes']), number(r['value_bits'])) for r in said['run']]
+        self.mean, self.settled = number(said['mean'][0]['value_bits']), int(said['mean'][0]['settled'])
+        self.sound_mean, self.sound = number(said['sound_mean'][0]['value_bits']), int(said['sound_mean'][0]['sound'])
+
+
+def number(bits):
+    """A float by its bits, 16 hexadecimal digits."""
+    return struct.unpack('>d', bytes.fromhex(bits))[0]
 
 
 def table(head, rows):
@@ -78,11 +103,16 @@ def compare(path, made, stands=None):
     return 0
 
 
-def compare_table(made):
-    """Prints a table and holds it against the one in the document that has the same header."""
+def compare_lines(made, pattern):
+    """Prints lines and holds them against those in the document that this pattern finds."""
     print(made)
-    found = re.search(re.escape(made[:made.index('\n') + 1]) + r'(\|.*\n)*', DOCUMENT.read_text())
+    found = re.search(pattern, DOCUMENT.read_text())
     if found is None:
-        print(f'differs: {DOCUMENT.relative_to(TOP)} has no table with this header')
+        print(f'differs: {DOCUMENT.relative_to(TOP)} has nothing in its place')
         return 1
     return compare(DOCUMENT, made, found[0])
+
+
+def compare_table(made):
+    """The same for a table, found by its header."""
+    return compare_lines(made, re.escape(made[:made.index('\n') + 1]) + r'(\|.*\n)*')
