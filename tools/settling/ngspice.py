@@ -20,7 +20,7 @@ from runs import BEHIND, SETS, SOUND, Report, Spreads, compare_table, table  # n
 LOOSEST, TIGHTEST = 1e-5, 1e-6
 # a job is far from ngspice beyond this many volts: far above what tolerances do, far below what a diode left behind does
 FAR = 0.01
-HEAD = ['RELTOL', 'VNTOL', 'ABSTOL', '`catchup`', 'mean here, V', 'mean of ngspice, V', 'means apart, V', 'farthest job, V', 'jobs beyond 0.01 V', 'jobs named behind']
+HEAD = ['RELTOL', 'VNTOL', 'ABSTOL', '`catchup`', 'mean here, V', 'mean of ngspice, V', 'means apart, V', 'sound jobs', 'the farthest, V', 'jobs behind', 'the nearest, V']
 OPTIONS = '.options reltol=1e-10 vntol=1e-12 abstol=1e-16 gmin=1e-20 itl1=1000'
 
 
@@ -65,21 +65,24 @@ def output(sheet, node, celsius):
 
 
 def apart(volts):
-    """A difference; below what ngspice's own digits carry it is only said to be below."""
-    return 'below 1e-12' if volts < 1e-12 else f'{volts:.1e}'.replace('e-0', 'e-') if volts < 0.01 else f'{volts:.3f}'
+    """A difference in volts, if there is one; where ngspice's own digits end it is only said to be below."""
+    return '-' if volts is None else 'below 1e-12' if volts < 1e-12 else f'{volts:.1e}'.replace('e-0', 'e-') if volts < 0.01 else f'{volts:.3f}'
 
 
 def row(tolerances, on, theirs):
     """The row of these tolerances, and what is wrong with it. theirs: ngspice's outputs by job."""
-    report = Report(spreads.written(tolerances, on))
-    ours = {k: report.jobs[k].value for k in theirs}
-    mean, mean_there = (fsum(all.values()) / len(all) for all in (ours, theirs))
-    far = {k for k in theirs if not abs(ours[k] - theirs[k]) <= FAR}
-    named = {k for k, job in enumerate(report.jobs) if job.cause == BEHIND}
-    wrong = 'the jobs far from ngspice are not those named behind' if far != named else ''
-    if on and not abs(mean - mean_there) <= (TIGHTEST if tolerances == SETS[-1] else LOOSEST):
+    jobs = Report(spreads.written(tolerances, on)).jobs
+    mean, mean_there = fsum(jobs[k].value for k in theirs) / len(theirs), fsum(theirs.values()) / len(theirs)
+    away = {cause: [abs(jobs[k].value - theirs[k]) for k in theirs if jobs[k].cause == cause] for cause in (SOUND, BEHIND)}
+    farthest, nearest = max(away[SOUND]), min(away[BEHIND], default=None)
+    wrong = ''
+    if len(away[SOUND]) + len(away[BEHIND]) != len(theirs):
+        wrong = 'a job has neither settled nor been left out'
+    elif not (farthest <= FAR and (nearest is None or nearest > FAR)):
+        wrong = 'the jobs far from ngspice are not those named behind'
+    elif on and not abs(mean - mean_there) <= (TIGHTEST if tolerances == SETS[-1] else LOOSEST):
         wrong = 'the means are too far apart'
-    cells = [f'{mean:.7f}', f'{mean_there:.7f}', apart(abs(mean - mean_there)), apart(max(abs(ours[k] - theirs[k]) for k in theirs)), str(len(far)), str(len(named))]
+    cells = [f'{mean:.7f}', f'{mean_there:.7f}', apart(abs(mean - mean_there)), str(len(away[SOUND])), apart(farthest), str(len(away[BEHIND])), apart(nearest)]
     return [*tolerances, 'on' if on else 'off', *cells], wrong
 
 
