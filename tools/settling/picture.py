@@ -6,7 +6,8 @@ The numbers come from examples/one_diode.c over the C door. Says whether docs/se
 import subprocess
 import sys
 
-from runs import TOP, compare
+sys.dont_write_bytecode = True
+from runs import TOP, compare  # noqa: E402
 
 WIDTH, HEIGHT = 900, 430
 TOP_EDGE, BOTTOM_EDGE = 112, 370  # of both panels: 5 V and 0 V
