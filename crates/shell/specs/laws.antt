@@ -4,4 +4,3 @@ pub mod Compare
 pub mod Words
 pub mod Asked
 pub mod Status
-pub mod Spreads
