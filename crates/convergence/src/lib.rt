@@ -51,7 +51,7 @@ fn place(x: f64, y: f64, node: bool, o: Options, r: Convergence) -> Convergence
 }
 
 // The difference that x may have.
-fn limit(x: f64, node: bool, o: Options) -> f64
+pub fn limit(x: f64, node: bool, o: Options) -> f64
     ensures { λ r. ⌜ r ≡ limitOf x node o ⌝ }
 {
     let t = absolute(x) * o.reltol;

@@ -19,7 +19,7 @@ use Rattle.passes.specs.Attempt.{Circuit, circuitOf}
 use Rattle.engine.specs.declared.Ending.{Ending}
 use Rattle.engine.specs.declared.Outcome.{Outcome}
 use Rattle.engine.specs.declared.Outcome.the-variants.{Refused, Ended}
-use Rattle.engine.specs.Work.{endOf}
+use Rattle.engine.specs.Work.{endOf, behindIn}
 
 -- ---- a call
 
@@ -67,9 +67,9 @@ pub record Result : Type 0 where
 abbrev pub resultOf : Outcome → Buffers → Result
 resultOf r x = record { outcome = r; buffers = x }
 
--- how counters read when no more passes are given; a run that is still going is 24
-unfoldable pub endingOf : Counters → Outcome
-endingOf c = Ended (record { verdict = verdictOf c; dc = dcVerdictOf c; passes = c .passes; rows = c .rows; end = c .time })
+-- how counters read when no more passes are given; a run that is still going is 24. Beside them stands the first diode that is behind.
+unfoldable pub endingOf : Counters → ℕ → Outcome
+endingOf c behind = Ended (record { verdict = verdictOf c; dc = dcVerdictOf c; passes = c .passes; rows = c .rows; end = c .time; behind = behind })
 
 -- "a refusal returns its number and a record place"
 unfoldable pub refusedOf : Checked → Outcome
@@ -81,6 +81,10 @@ circuit c = circuitOf (c .job) (order (sizes c)) (c .sheet) (c .points)
 
 abbrev pub lastOf : Call → State
 lastOf c = endOf (circuit c) (take (records (sizes c)) (c .lent .memory)) (c .lent .rows)
+
+-- how it ends
+abbrev pub lastEnding : Call → Outcome
+lastEnding c = endingOf (lastOf c .counters) (behindIn (c .job .options) (c .sheet) (lastOf c .buffers))
 
 -- "Buffers after a run": the first part of each is given by the last state, and "nothing changes past the lengths named"
 abbrev pub laid : Sizes → Buffers → Buffers → Buffers
@@ -101,7 +105,7 @@ unless (Faulty k i) done kept = kept
 unfoldable pub runOf : Call → Result
 runOf c =
     unless (checkedCall c)
-    (resultOf (endingOf (lastOf c .counters)) (laid (sizes c) (lastOf c .buffers) (c .lent)))
+    (resultOf (lastEnding c) (laid (sizes c) (lastOf c .buffers) (c .lent)))
     (resultOf (refusedOf (checkedCall c)) (c .lent))
 
 -- "The elimination matrix is scratch": nothing past its length changes, and nothing at all where the call is refused

@@ -1,4 +1,4 @@
--- The work of a run on buffers of the very lengths. Clients cite baseOn and endOf.
+-- The work of a run on buffers of the very lengths. Clients cite baseOn, endOf and behindIn.
 use Prim.Native.Nat.{ℕ, _+_, _*_, _≤_}
 use mathlib.Core.Path.{_≡_}
 use mathlib.Core.List.{List}
@@ -6,6 +6,8 @@ use lib.ListN.{replicate}
 use lib.Ieee.{Float}
 use Rattle.numbers.specs.Limits.{mostUnknowns}
 use Rattle.num.specs.Floats.{nought}
+use Rattle.options.specs.declared.Options.{Options}
+use Rattle.behind.specs.Behind.{behindNumber}
 use Rattle.steps.specs.declared.Counters.{Counters}
 use Rattle.steps.specs.Counters.{started}
 use Rattle.groups.specs.Stamping.{baseOf}
@@ -32,6 +34,10 @@ startOf k memory rows =
 unfoldable pub endOf : Circuit → List Float → List Float → State
 endOf k memory rows = runFor (attemptOf k) (k .job) (k .job .options .budget) (startOf k memory rows)
 
+-- the first diode that is behind in the vector and the memory that a run leaves, whatever its verdict: 0 for none, else 1 and the record's place
+abbrev pub behindIn : Options → List ℕ → Buffers → ℕ
+behindIn o sheet x = behindNumber o sheet (x .vector) (x .memory)
+
 -- ---- for the contracts of inner functions
 
 -- the lengths of the lent parts
@@ -45,10 +51,11 @@ pub record Fit (n base elimination system : ℕ) : Type 0 where
 -- what a run leaves to its caller: the accepted vector is the run's own
 pub record Handover : Type 0 where
   pub counters : Counters
+  pub behind : ℕ
   pub buffers : Buffers
 
-abbrev pub handoverOf : Counters → Buffers → Handover
-handoverOf c x = record { counters = c; buffers = x }
+abbrev pub handoverOf : Counters → ℕ → Buffers → Handover
+handoverOf c b x = record { counters = c; behind = b; buffers = x }
 
-abbrev pub handover : State → Handover
-handover s = handoverOf (s .counters) (s .buffers)
+abbrev pub handover : Circuit → State → Handover
+handover k s = handoverOf (s .counters) (behindIn (k .job .options) (k .sheet) (s .buffers)) (s .buffers)

@@ -14,13 +14,15 @@ use options::Options;
 use sheet::Checked;
 use steps::Job;
 
-// How a run ended: its verdict, the verdict of its DC part, the passes solved, the rows written and the time reached.
+// How a run ended: its verdict, the verdict of its DC part, the passes solved, the rows written and the time reached; and whether a diode was then behind.
 pub struct Ending {
     pub verdict: u8,
     pub dc: u8,
     pub passes: u64,
     pub rows: u64,
     pub end: f64,
+    // the first diode that is behind in the last vector: 0 for none, else 1 and its record's place
+    pub behind: u64,
 }
 
 // The number of a refusal and the place of the record, or how the run ended.
@@ -158,7 +160,7 @@ fn analysis(
     let n = j.nodes + sources;
     let cells = n * (n + 1);
     let records = sheet.len() / sheet::RECORD;
-    let c = work::run_in(
+    let r = work::run_in(
         j,
         sheet,
         points,
@@ -169,5 +171,5 @@ fn analysis(
         &mut memory[..records],
         rows,
     );
-    told::ended(c)
+    told::ended(r)
 }

@@ -2,7 +2,7 @@
 // nothing, a number read past the end of a vector is no number, and nothing is written outside the system or past a buffer's end.
 pub mod diodes;
 mod plain;
-mod records;
+pub mod records;
 mod sources;
 
 ghost use mathlib.Core.Path.{_≡_};

@@ -16,7 +16,7 @@ use Rattle.steps.specs.declared.Report.the-variants.{Yes, No, Error, Diode, Sin
 use Rattle.numbers.specs.Verdicts.{diodeCurrent, noRoom}
 use Rattle.steps.specs.Phases.{dcPhase, transientPhase}
 use Rattle.steps.specs.Counters.{ended, written}
-use Rattle.steps.specs.Control.{reportOf, dcAfter, stepAfter, rowDue}
+use Rattle.steps.specs.Control.{reportOf, waited, dcAfter, stepAfter, rowDue}
 use Rattle.machine.specs.State.{Buffers, buffersOf, State, stateOf, Attempt, Tried, triedOf, Written, writtenOf}
 
 -- ---- stamp, solve, compare
@@ -29,14 +29,21 @@ before first v = cond first (zerosLike v) v
 abbrev pub reported : ℕ → Report → Report
 reported fault check = cond (eqb fault 0) check (cond (eqb fault diodeCurrent) Diode Sine)
 
-unfoldable pub tried : Attempt → Job → Counters → List Float → Buffers → Tried
-tried f j c accepted x =
+-- what comparing alone makes of an attempt
+unfoldable pub compared : Attempt → Job → Counters → List Float → Buffers → Tried
+compared f j c accepted x =
     let a = f c accepted x in
     triedOf
     (reported (a .fault) (reportOf (convergenceOf (a .vector) (before (c .first) (x .vector)) (j .nodes) (j .options))))
     (a .system)
     (a .vector)
     (a .memory)
+
+-- the attempt with its report: "yes" may have to wait for a diode that is behind
+unfoldable pub tried : Attempt → Job → Counters → List Float → Buffers → Tried
+tried f j c accepted x =
+    let t = compared f j c accepted x in
+    triedOf (waited (j .options) (f c accepted x .behind) (t .report)) (t .system) (t .vector) (t .memory)
 
 abbrev pub triedBy : Attempt → Job → State → Tried
 triedBy f j s = tried f j (s .counters) (s .accepted) (s .buffers)

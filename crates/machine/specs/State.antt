@@ -36,9 +36,17 @@ pub record Solved : Type 0 where
   pub vector : List Float
   pub memory : List Float
 
+-- the same, and the first diode that is then behind: 0 for none, else 1 and its record's place
+pub record Attempted : Type 0 where
+  pub fault : ℕ
+  pub system : List Float
+  pub vector : List Float
+  pub memory : List Float
+  pub behind : ℕ
+
 -- of stamping and solving the machine knows no more than this: what it makes of the counters, the accepted vector and the buffers
 abbrev pub Attempt : Type 0
-Attempt = Counters → List Float → Buffers → Solved
+Attempt = Counters → List Float → Buffers → Attempted
 
 -- an attempt with the report on it
 pub record Tried : Type 0 where

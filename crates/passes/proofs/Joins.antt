@@ -19,7 +19,8 @@ use Rattle.steps.specs.declared.Job.{Job}
 use Rattle.steps.specs.declared.Report.{Report}
 use Rattle.steps.specs.Phases.{dcPhase, transientPhase, endedPhase}
 use Rattle.steps.specs.Counters.{going}
-use Rattle.steps.specs.Control.{reportOf, stepAfter}
+use Rattle.steps.specs.Control.{reportOf, waited, stepAfter}
+use Rattle.behind.specs.Behind.{behindNumber}
 use Rattle.machine.specs.laws.Budget.{pass-dc, pass-step}
 use Rattle.groups.specs.declared.Pass.{Pass}
 use Rattle.groups.specs.Sources.{Driven, drivenOf}
@@ -30,7 +31,7 @@ use Rattle.groups.specs.laws.Listed.{no-diodes}
 use Rattle.solve.specs.Solve.{Solved, solvedAs, solution, solveOf}
 use Rattle.solve.specs.laws.Solve.{solution-length, solves-whole}
 use Rattle.machine.specs.State.{State, buffersOf, stateOf, Tried, triedOf, Written, writtenOf}
-use Rattle.machine.specs.Machine.{before, tried, landed, after, accepts, dcPass, stepPass, pass}
+use Rattle.machine.specs.Machine.{before, compared, tried, landed, after, accepts, dcPass, stepPass, pass}
 use Rattle.passes.specs.Attempt.{Circuit, attemptOf}
 use Rattle.passes.specs.Sized.{Square}
 use Rattle.passes.specs.Again.{linearAt, failureOf, finished, bare, Holder, Holds}
@@ -61,21 +62,29 @@ whole-code k m l z e = ap (λ (n : ℕ). drivenOf n m) (sym z) ∙ e
 
 -- what an attempt tries does not depend on the rows
 pub any-rows : (k : Circuit) (j : Job) (c : Counters) (a b s v m w w′ : List Float) → tried (attemptOf k) j c a (buffersOf b s v m w) ≡ tried (attemptOf k) j c a (buffersOf b s v m w′)
-unfolding tried attemptOf
+unfolding tried compared attemptOf
 any-rows k j c a b s v m w w′ = refl
 
 module _ (k : Circuit) (c : Counters) (acc base sys vec mem : List Float) where
   abbrev whole : Tried
-  whole = tried (attemptOf k) (k .job) c acc (buffersOf base sys vec mem [])
+  whole = compared (attemptOf k) (k .job) c acc (buffersOf base sys vec mem [])
+
+  -- the report on it, once it has waited
+  pub waits : (r q : Report) (s v y : List Float) → triedOf r s v y ≡ whole → q ≡ waited (k .job .options) (behindNumber (k .job .options) (k .sheet) v y) r
+      → triedOf q s v y ≡ tried (attemptOf k) (k .job) c acc (buffersOf base sys vec mem [])
+  unfolding tried compared attemptOf
+  waits r q s v y e w =
+      let o = k .job .options in
+      rw w (ap (λ (t : Tried). triedOf (waited o (behindNumber o (k .sheet) (t .vector) (t .memory)) (t .report)) (t .system) (t .vector) (t .memory)) e)
 
   -- a sine ended it before the diodes
   pub unstamped : (code : ℕ) (m : List Float) → drivenOf code m ≡ linearAt k c acc base → (code ≡ 0 → ⊥) → triedOf (failureOf code) sys vec mem ≡ whole
-  unfolding tried attemptOf stampOf failureOf
+  unfolding compared attemptOf stampOf failureOf
   unstamped code m e z = rw (← e, ne-eqb _ _ z, ne-eqb _ _ z, ne-eqb _ _ z)
 
   -- it came to the diodes
   pub stamped-first : (m : List Float) → drivenOf 0 m ≡ linearAt k c acc base → length vec ≡ k .order → finished (k .job) (c .first) (k .sheet) m sys vec mem ≡ whole
-  unfolding tried attemptOf stampOf finished
+  unfolding compared attemptOf stampOf finished
   stamped-first m e l = rw (← e, l)
 
   module _ (places : List ℕ) (h : ℕ) (holder : Holder (k .sheet) places (length base) h) (free : bare h ≡ true) where
@@ -86,7 +95,7 @@ module _ (k : Circuit) (c : Counters) (acc base sys vec mem : List Float) where
 
     -- then the last pass's system and vector come again
     pub repeated : linearAt k c acc base ≡ drivenOf 0 sys → vec ≡ solution (k .order) sys → c .first ≡ false → triedOf (reportOf (convergenceOf vec vec (k .job .nodes) (k .job .options))) sys vec mem ≡ whole
-    unfolding tried attemptOf stampOf
+    unfolding compared attemptOf stampOf
     repeated e v f = rw (e, unbiased (k .order) vec sys mem, f, ← v)
 
     without-diodes : (m : List Float)

@@ -11,7 +11,8 @@ use Rattle.solve.specs.Solve.{solution}
 use Rattle.steps.specs.declared.Counters.{Counters}
 use Rattle.steps.specs.declared.Job.{Job}
 use Rattle.steps.specs.Phases.{dcPhase}
-use Rattle.machine.specs.State.{Solved, Attempt}
+use Rattle.machine.specs.State.{Solved, Attempted, Attempt}
+use Rattle.behind.specs.Behind.{behindNumber}
 
 -- what a run stamps from besides its base matrix: the job, and the sheet with its points
 pub record Circuit : Type 0 where
@@ -36,7 +37,12 @@ solvedFrom n t system vector =
     (record { fault = 0; system = t .matrix; vector = solution n (t .matrix); memory = t .memory })
     (record { fault = t .code; system = system; vector = vector; memory = t .memory })
 
+-- which diode is behind in what a pass leaves: the vector just solved, and the voltages at which its diodes were linearized
+abbrev pub attemptedOf : Circuit → Solved → Attempted
+attemptedOf k a =
+    record { fault = a .fault; system = a .system; vector = a .vector; memory = a .memory; behind = behindNumber (k .job .options) (k .sheet) (a .vector) (a .memory) }
+
 -- each pass is stamped over the base, from the accepted vector and its own previous one
 unfoldable pub attemptOf : Circuit → Attempt
 attemptOf k c accepted x =
-    solvedFrom (k .order) (stampOf (k .job .options) (passOf (k .job) (k .order) c) (k .sheet) (k .points) (x .base) accepted (x .vector) (x .memory) (x .base)) (x .system) (x .vector)
+    attemptedOf k (solvedFrom (k .order) (stampOf (k .job .options) (passOf (k .job) (k .order) c) (k .sheet) (k .points) (x .base) accepted (x .vector) (x .memory) (x .base)) (x .system) (x .vector))

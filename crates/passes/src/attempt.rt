@@ -9,13 +9,15 @@ ghost use Rattle.groups.specs.Listed.{Listed};
 ghost use Rattle.groups.specs.Sources.{drivenOf};
 ghost use Rattle.groups.specs.Stamping.{linearOf};
 ghost use Rattle.steps.specs.Control.{reportOf};
-ghost use Rattle.steps.specs.Control.{solved};
+ghost use Rattle.steps.specs.Control.{solved, waited};
+ghost use Rattle.behind.specs.Behind.{behindNumber};
 ghost use Rattle.machine.specs.State.{buffersOf, triedOf};
-ghost use Rattle.machine.specs.Machine.{tried};
+ghost use Rattle.machine.specs.Machine.{compared, tried};
 ghost use Rattle.passes.specs.Sized.{Sized, Square};
 ghost use Rattle.passes.specs.Attempt.{circuitOf, passOf, attemptOf};
 ghost use Rattle.passes.specs.Again.{failureOf, finished, Usable, Holds};
 ghost use Rattle.passes.specs.Run.{renewed, renewedOf};
+use behind::behind_number;
 use convergence::convergence_check;
 use groups::Pass;
 use groups::diodes::stamp_diodes;
@@ -23,7 +25,9 @@ use groups::stamp_linear;
 use loops::cells;
 use loops::clear_if;
 use loops::copy;
+use machine::accepts;
 use numbers::verdict::DIODE_CURRENT;
+use options::Options;
 use solve::solve;
 use steps::Counters;
 use steps::DC;
@@ -31,8 +35,7 @@ use steps::Job;
 use steps::Report;
 use steps::report_of;
 
-// Stamps and solves one pass, and reports on it. `again` says that the pass before was stamped alike; `places` lists the diodes; `held` holds what was stamped before them, or is
-// empty in a circuit without any.
+// Stamps and solves one pass, and reports on it; where the options say so, "yes" waits for every diode. The parameters are those of `solve_pass`.
 pub fn attempt(
     j: Job,
     c: Counters,
@@ -55,6 +58,71 @@ pub fn attempt(
     ensures all { λ r. ⌜
         triedOf r (now (system .exit)) (now (vector .exit)) (now (memory .exit))
         ≡ tried (attemptOf (circuitOf j (length (now (vector .entry))) (now (sheet .entry)) (now (points .entry)))) j c (now (accepted .entry))
+        (buffersOf (now (base .entry)) (now (system .entry)) (now (vector .entry)) (now (memory .entry)) [])
+        ⌝ }
+    ensures left { λ r. ⌜
+        (solved r ≡ true
+        → Holds (circuitOf j (length (now (vector .entry))) (now (sheet .entry)) (now (points .entry))) c (now (accepted .entry)) (now (base .entry)) (now (held .exit)) (now (system .exit)) (now (vector .exit)))
+        ⌝ }
+{
+    let r = solve_pass(
+        j,
+        c,
+        again,
+        sheet,
+        places,
+        points,
+        base,
+        accepted,
+        held,
+        elimination,
+        system,
+        vector,
+        memory,
+    );
+    wait(j.options, sheet, vector, memory, r)
+}
+
+// The report on a pass that has left this vector and this memory: where the options say so, "yes" is "no" while a diode is behind.
+fn wait(o: Options, sheet: &[u8], vector: &[f64], memory: &[f64], r: Report) -> Report
+    ensures { λ q. ⌜ q ≡ waited o (behindNumber o (now (sheet .entry)) (now (vector .entry)) (now (memory .entry))) r ⌝ }
+{
+    if !accepts(r) {
+        return r;
+    }
+    if o.catchup == 0 {
+        return r;
+    }
+    if behind_number(o, sheet, vector, memory) == 0 {
+        return r;
+    }
+    Report::No
+}
+
+// Stamps, solves and compares one pass. `again` says that the pass before was stamped alike; `places` lists the diodes; `held` holds what was stamped before them, or is
+// empty in a circuit without any.
+fn solve_pass(
+    j: Job,
+    c: Counters,
+    again: bool,
+    sheet: &[u8],
+    places: &[u8],
+    points: &[u8],
+    base: &[f64],
+    accepted: &[f64],
+    held: &mut [f64],
+    elimination: &mut [f64],
+    system: &mut [f64],
+    vector: &mut [f64],
+    memory: &mut [f64],
+) -> Report
+    requires sized { ⌜ Sized (length (now vector)) (length (now accepted)) (length (now base)) (length (now elimination)) (length (now system)) ⌝ }
+    requires usable { ⌜
+        Usable (circuitOf j (length (now vector)) (now sheet) (now points)) (now places) again c (now accepted) (now base) (now held) (now system) (now vector)
+        ⌝ }
+    ensures all { λ r. ⌜
+        triedOf r (now (system .exit)) (now (vector .exit)) (now (memory .exit))
+        ≡ compared (attemptOf (circuitOf j (length (now (vector .entry))) (now (sheet .entry)) (now (points .entry)))) j c (now (accepted .entry))
         (buffersOf (now (base .entry)) (now (system .entry)) (now (vector .entry)) (now (memory .entry)) [])
         ⌝ }
     ensures left { λ r. ⌜

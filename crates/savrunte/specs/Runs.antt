@@ -8,12 +8,12 @@ use Rattle.savrunte.specs.declared.TransientAnswer.{TransientAnswer}
 
 -- the numbers of a run's answer
 unfoldable pub dcAnswer : Outcome → DcAnswer
-dcAnswer r = let t = numbersOf r in record { refusal = t .refusal; place = t .place; verdict = t .verdict; passes = t .passes }
+dcAnswer r = let t = numbersOf r in record { refusal = t .refusal; place = t .place; verdict = t .verdict; passes = t .passes; behind = t .behind }
 
 unfoldable pub transientAnswer : Outcome → TransientAnswer
 transientAnswer r =
     let t = numbersOf r in
-    record { refusal = t .refusal; place = t .place; verdict = t .verdict; «dc_verdict» = t .dc; passes = t .passes; rows = t .rows; end = t .end }
+    record { refusal = t .refusal; place = t .place; verdict = t .verdict; «dc_verdict» = t .dc; passes = t .passes; rows = t .rows; end = t .end; behind = t .behind }
 
 -- the door's answer, and each lent buffer afterwards
 pub record Dc : Type 0 where

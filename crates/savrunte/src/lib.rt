@@ -5,6 +5,7 @@ ghost use mathlib.Core.Bool.{true, false};
 ghost use mathlib.Core.List.{[]};
 ghost use Prim.Native.Nat.{_/_};
 ghost use lib.ListN.{length};
+ghost use Rattle.behind.specs.Behind.{behindNumber};
 ghost use Rattle.convergence.specs.Convergence.{convergenceOf};
 ghost use Rattle.machine.specs.State.{buffersOf};
 ghost use Rattle.engine.specs.Engine.{callOf, runOf, Scratched};
@@ -67,6 +68,7 @@ pub struct DcAnswer {
     pub place: u64,
     pub verdict: u64,
     pub passes: u64,
+    pub behind: u64,
 }
 
 #[repr(C)]
@@ -78,6 +80,7 @@ pub struct TransientAnswer {
     pub passes: u64,
     pub rows: u64,
     pub end: f64,
+    pub behind: u64,
 }
 
 #[repr(C)]
@@ -168,6 +171,19 @@ pub extern "C" fn savrunte_transient(
         rows,
     );
     transient_answer(r)
+}
+
+// The first record whose diode is behind at this vector, with this memory: 0 for none, else 1 and its place.
+#[no_mangle]
+pub extern "C" fn savrunte_behind(
+    sheet: &[u8],
+    vector: &[f64],
+    memory: &[f64],
+    options: Options,
+) -> u64
+    ensures { λ r. ⌜ r ≡ behindNumber options (now (sheet .entry)) (now (vector .entry)) (now (memory .entry)) ⌝ }
+{
+    behind::behind_number(options, sheet, vector, memory)
 }
 
 // All spreads in one call: every job run, and the report over them.
@@ -382,6 +398,7 @@ fn dc_answer(r: Outcome) -> DcAnswer
         place: t.place,
         verdict: t.verdict,
         passes: t.passes,
+        behind: t.behind,
     }
 }
 
@@ -397,6 +414,7 @@ fn transient_answer(r: Outcome) -> TransientAnswer
             passes: 0,
             rows: 0,
             end: 0.0,
+            behind: 0,
         },
         Outcome::Ended(e) => TransientAnswer {
             refusal: 0,
@@ -406,6 +424,7 @@ fn transient_answer(r: Outcome) -> TransientAnswer
             passes: e.passes,
             rows: e.rows,
             end: e.end,
+            behind: e.behind,
         },
     }
 }

@@ -15,12 +15,12 @@ use Rattle.engine.specs.Engine.{Call, callOf, Result, runOf}
 use Rattle.engine.specs.Numbers.{numbersOf, numberOf}
 use Rattle.single.specs.declared.Mark.{Mark}
 
-abbrev pub markAs : ℕ → ℕ → ℕ → Mark
-markAs number place passes = record { number = number; place = place; passes = passes }
+abbrev pub markAs : ℕ → ℕ → ℕ → ℕ → Mark
+markAs number place passes behind = record { number = number; place = place; passes = passes; behind = behind }
 
 -- "A job refused by 6 to 10 is counted under its number, with 0 passes"
 unfoldable pub markOf : Outcome → Mark
-markOf r = markAs (numberOf r) (numbersOf r .place) (numbersOf r .passes)
+markOf r = markAs (numberOf r) (numbersOf r .place) (numbersOf r .passes) (numbersOf r .behind)
 
 -- what a job makes: what is written down for it, its vector, and the last system stamped whole
 pub record Single : Type 0 where

@@ -9,11 +9,12 @@ ghost use Rattle.single.specs.Single.{markOf, dcCall, markedOf, markedRu
 use engine::Outcome;
 use options::Options;
 
-// What is written down for a job: its verdict or its refusal, the faulty record's place, and the passes solved.
+// What is written down for a job: its verdict or its refusal, the faulty record's place, and the passes solved; and the first diode that is behind in its vector, 0 for none, else 1 and the record's place.
 pub struct Mark {
     pub number: u64,
     pub place: u64,
     pub passes: u64,
+    pub behind: u64,
 }
 
 // One job, with fresh memory. A job that is refused leaves zeros in its vector and its system.
@@ -67,11 +68,13 @@ fn marked(r: Outcome) -> Mark
             number: k as u64,
             place: i as u64,
             passes: 0,
+            behind: 0,
         },
         Outcome::Ended(e) => Mark {
             number: e.verdict as u64,
             place: 0,
             passes: e.passes,
+            behind: e.behind,
         },
     }
 }

@@ -1,12 +1,13 @@
 -- The control: what the report of a pass makes of the counters. To be held beside the Rust's `dc_solve` and `transient_analysis`.
 use Prim.Native.Nat.{ℕ}
 use mathlib.Core.Bool.{Bool, true, false, cond, not}
-use lib.Dec.{ltb, leb}
+use lib.Dec.{eqb, ltb, leb}
 use lib.Ieee as Ieee
 use lib.Ieee.{Float, binary64}
 use Rattle.num.specs.Floats.{nought}
 use Rattle.num.specs.Literals.{two}
 use Rattle.options.specs.declared.Options.{Options}
+use Rattle.options.specs.Switch.{on}
 use Rattle.convergence.specs.declared.Convergence.{Convergence}
 use Rattle.convergence.specs.declared.Convergence.the-variants as check
 use Rattle.steps.specs.declared.Counters.{Counters}
@@ -29,6 +30,14 @@ solved No = true
 solved Error = true
 solved Diode = false
 solved Sine = false
+
+-- a pass that would say "yes" says "no" while a diode is behind, where the options say so; every other report stays. `behind` is 0 where none is.
+unfoldable pub waited : Options → ℕ → Report → Report
+waited o behind Yes = cond (on (o .catchup)) (cond (eqb behind 0) Yes No) Yes
+waited o behind No = No
+waited o behind Error = Error
+waited o behind Diode = Diode
+waited o behind Sine = Sine
 
 -- ---- DC
 

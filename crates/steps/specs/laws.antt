@@ -1,2 +1,3 @@
 -- What is proved of the control.
 pub mod Control
+pub mod Waited

@@ -98,7 +98,7 @@ returns-2 c =
     let a = c .before .before .before .before .before .before .before .before .before .before .before .before .before .before .before .before .before .before .before .before .before .before .before .before .before .before .before .before .before .before .before .before .args in
     let k = ok e in
     let x = c .before .before .before .before .before .before .before .before .before .before .before .before .before .run-in in (
-      run-ended (C e) _ _ _ (clean e) (c .ended .ensures) (rw (length-take-le _ _ (k .vector-room)) at (x .ensures)),
+      run-ended (C e) _ _ _ _ (clean e) (c .ended .ensures) (rw (length-take-le _ _ (k .vector-room)) at (x .ensures)),
       record {
         rest = drop-at (x .last .1 .1 .1 .1 .0) (drop (cells (sizes (C e))) (a .elimination .now)) (cells (sizes (C e))) (x .kept .1 .1 .1 .1 .0 ∙ length-take-le _ _ (k .elimination-room));
         kept = λ h. absurd (h (clean e));

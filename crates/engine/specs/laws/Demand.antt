@@ -23,7 +23,7 @@ use Rattle.machine.specs.laws.NoSine.{DcVerdict}
 use Rattle.engine.specs.declared.Ending.{Ending}
 use Rattle.engine.specs.declared.Outcome.{Outcome}
 use Rattle.engine.specs.declared.Outcome.the-variants.{Refused, Ended}
-use Rattle.engine.specs.Engine.{Call, sizes, checkedCall, Result, resultOf, endingOf, refusedOf, lastOf, laid, runOf}
+use Rattle.engine.specs.Engine.{Call, sizes, checkedCall, Result, resultOf, endingOf, refusedOf, lastOf, lastEnding, laid, runOf}
 use Rattle.engine.specs.laws.Engine.{run-by-check}
 use Rattle.engine.specs.laws.Lengths.{last-held}
 use Rattle.engine.specs.laws.NoSine.{dc-verdict, dc-run-verdict}
@@ -87,7 +87,7 @@ module _ (c : Call) where
     by-analysis false e = dc-run-verdict c e
     by-analysis true e = subst (λ (b : Bool). Verdict b (verdictOf (lastOf c .counters))) e (ended c)
 
-    ending : runOf c ≡ resultOf (endingOf (lastOf c .counters)) left → Answer c (endingOf (lastOf c .counters))
+    ending : runOf c ≡ resultOf (lastEnding c) left → Answer c (lastEnding c)
     unfolding endingOf
     ending q =
         let b : runOf c .buffers ≡ left = ap (λ (x : Result). x .buffers) q in
@@ -116,7 +116,7 @@ module _ (c : Call) where
       refl
 
   -- the table's other half: a call that meets none of the conditions 1 to 10 is not refused, and ends as its last state says
-  pub not-refused : NoneMet (c .job .options) (sizes c) (c .sheet) → runOf c .outcome ≡ endingOf (lastOf c .counters)
+  pub not-refused : NoneMet (c .job .options) (sizes c) (c .sheet) → runOf c .outcome ≡ lastEnding c
   unfolding runOf
   not-refused h = rw (none-met (c .job .options) (sizes c) (c .sheet) h)
 

@@ -7,15 +7,15 @@ use Rattle.steps.specs.declared.Counters.{Counters}
 use Rattle.machine.specs.State.{Buffers}
 use Rattle.engine.specs.declared.Outcome.{Outcome}
 use Rattle.engine.specs.Work.{Handover, handoverOf, handover}
-use Rattle.engine.specs.Engine.{Call, sizes, checkedCall, Result, resultOf, endingOf, refusedOf, lastOf, laid, unless, runOf}
+use Rattle.engine.specs.Engine.{Call, sizes, checkedCall, Result, resultOf, endingOf, refusedOf, circuit, lastOf, lastEnding, laid, unless, runOf}
 
 -- what holds of a refused call and of one that runs holds of every call
-pub run-by-check : (c : Call) (P : Result → Type 0) → (checkedCall c ≡ Clean → P (resultOf (endingOf (lastOf c .counters)) (laid (sizes c) (lastOf c .buffers) (c .lent))))
+pub run-by-check : (c : Call) (P : Result → Type 0) → (checkedCall c ≡ Clean → P (resultOf (lastEnding c) (laid (sizes c) (lastOf c .buffers) (c .lent))))
     → ((k i : ℕ) → checkedCall c ≡ Faulty k i → P (resultOf (refusedOf (Faulty k i)) (c .lent))) → P (runOf c)
 unfolding runOf
 run-by-check c P f g = go (checkedCall c) refl
   where
-    go : (x : Checked) → checkedCall c ≡ x → P (unless x (resultOf (endingOf (lastOf c .counters)) (laid (sizes c) (lastOf c .buffers) (c .lent))) (resultOf (refusedOf x) (c .lent)))
+    go : (x : Checked) → checkedCall c ≡ x → P (unless x (resultOf (lastEnding c) (laid (sizes c) (lastOf c .buffers) (c .lent))) (resultOf (refusedOf x) (c .lent)))
     go Clean e = f e
     go (Faulty k i) e = g k i e
 
@@ -28,6 +28,6 @@ module _ (c : Call) where
       rw (← e, t, q₁)
 
   -- a call that runs, from what its work leaves
-  pub run-ended : (r : Outcome) (n : Counters) (x : Buffers) → checkedCall c ≡ Clean → r ≡ endingOf n → handoverOf n x ≡ handover (lastOf c) → resultOf r (laid (sizes c) x (c .lent)) ≡ runOf c
+  pub run-ended : (r : Outcome) (n : Counters) (b : ℕ) (x : Buffers) → checkedCall c ≡ Clean → r ≡ endingOf n b → handoverOf n b x ≡ handover (circuit c) (lastOf c) → resultOf r (laid (sizes c) x (c .lent)) ≡ runOf c
   unfolding runOf
-  run-ended r n x e q t = rw (e, q) (ap (λ (l : Handover). resultOf (endingOf (l .counters)) (laid (sizes c) (l .buffers) (c .lent))) t)
+  run-ended r n b x e q t = rw (e, q) (ap (λ (l : Handover). resultOf (endingOf (l .counters) (l .behind)) (laid (sizes c) (l .buffers) (c .lent))) t)

@@ -23,7 +23,7 @@ use Rattle.steps.specs.Phases.{dcPhase, transientPhase}
 use Rattle.steps.specs.declared.Job.{Job}
 use Rattle.groups.specs.declared.Pass.{Pass}
 use Rattle.machine.specs.State.{Buffers, buffersOf, State, Solved}
-use Rattle.machine.specs.Machine.{tried, triedBy, accepts, dcPass, stepPass, pass, runFor}
+use Rattle.machine.specs.Machine.{compared, tried, triedBy, accepts, dcPass, stepPass, pass, runFor}
 use Rattle.passes.specs.Attempt.{Circuit, passOf, attemptOf}
 use Rattle.passes.specs.laws.Attempt.{steady}
 use Rattle.engine.specs.Begin.{forgetAt, forgotten}
@@ -85,7 +85,7 @@ module _ (k : Circuit) (y : List Float) where
 
   module _ (j : Job) where
     tried-held : (s : State) (r : List Float) → Holds (s .buffers) → Holds (buffersOf (s .buffers .base) (triedBy (attemptOf k) j s .system) (triedBy (attemptOf k) j s .vector) (triedBy (attemptOf k) j s .memory) r)
-    unfolding tried
+    unfolding tried compared
     tried-held s r h =
         record {
           base = h .base;

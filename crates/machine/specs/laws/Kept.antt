@@ -1,7 +1,7 @@
 -- What a pass keeps, for every stamping and solving f: a fact of the counters that no small change breaks holds after a solved pass if it holds of the
 -- counted counters; a pass that is not solved ends the run and counts nothing. Assumes nothing.
 use Prim.Native.Nat.{ℕ}
-use mathlib.Core.Path.{_≡_, refl, sym, subst}
+use mathlib.Core.Path.{_≡_, refl, sym, subst, _∙_}
 use mathlib.Core.Bool.{Bool, true, false, cond}
 use mathlib.Core.List.{List}
 use lib.Dec.{eqb, ltb}
@@ -17,12 +17,13 @@ use Rattle.steps.specs.declared.Report.the-variants.{Diode, Sine}
 use Rattle.numbers.specs.Verdicts.{diodeCurrent}
 use Rattle.steps.specs.Phases.{dcPhase, transientPhase}
 use Rattle.steps.specs.Counters.{counted, ended, withDc, going}
-use Rattle.steps.specs.Control.{reportOf, dcAfter, stepAfter, rowDue}
+use Rattle.steps.specs.Control.{reportOf, waited, dcAfter, stepAfter, rowDue}
+use Rattle.steps.specs.laws.Waited.{waited-solved}
 use Rattle.steps.specs.laws.Control.{fills, Fails, «at-diode», «at-sine», Closed, dc-keeps, step-keeps}
 use Rattle.steps.specs.Control.{solved}
 use Rattle.steps.specs.declared.Job.{Job}
 use Rattle.machine.specs.State.{State, Attempt, Written}
-use Rattle.machine.specs.Machine.{before, tried, triedBy, writtenBy, landed, accepts, dcPass, stepPass, pass}
+use Rattle.machine.specs.Machine.{before, compared, tried, triedBy, writtenBy, landed, accepts, dcPass, stepPass, pass}
 use Rattle.machine.specs.laws.Budget.{pass-stopped}
 
 -- ---- what an attempt reports
@@ -38,16 +39,20 @@ module _ (f : Attempt) (j : Job) (s : State) where
   abbrev pub faultAt : ℕ
   faultAt = f (s .counters) (s .accepted) (s .buffers) .fault
 
+  -- the first diode that is behind in what it solved
+  abbrev pub behindAt : ℕ
+  behindAt = f (s .counters) (s .accepted) (s .buffers) .behind
+
   report-solved : eqb faultAt 0 ≡ true → solved (triedBy f j s .report) ≡ true
-  unfolding tried
-  report-solved h = rw h (check-solved (convergenceOf (f (s .counters) (s .accepted) (s .buffers) .vector) (before (s .counters .first) (s .buffers .vector)) (j .nodes) (j .options)))
+  unfolding tried compared
+  report-solved h = waited-solved (j .options) behindAt _ ∙ (rw h (check-solved (convergenceOf (f (s .counters) (s .accepted) (s .buffers) .vector) (before (s .counters .first) (s .buffers .vector)) (j .nodes) (j .options))))
 
   report-diode : eqb faultAt 0 ≡ false → eqb faultAt diodeCurrent ≡ true → triedBy f j s .report ≡ Diode
-  unfolding tried
+  unfolding tried compared waited
   report-diode h d = rw (h, d)
 
   report-sine : eqb faultAt 0 ≡ false → eqb faultAt diodeCurrent ≡ false → triedBy f j s .report ≡ Sine
-  unfolding tried
+  unfolding tried compared waited
   report-sine h d = rw (h, d)
 
 -- ---- a pass that is solved

@@ -14,9 +14,9 @@ use Rattle.checks.specs.declared.Sizes.{Sizes}
 use Rattle.checks.specs.Checks.{order, cells, checkedOf}
 use Rattle.steps.specs.Counters.{verdictOf}
 use Rattle.machine.specs.State.{Buffers, State}
-use Rattle.engine.specs.Work.{zeros}
+use Rattle.engine.specs.Work.{zeros, behindIn}
 use Rattle.engine.specs.laws.Engine.{run-by-check}
-use Rattle.engine.specs.Engine.{Call, sizes, checkedCall, Result, resultOf, endingOf, refusedOf, lastOf, laid, unless, runOf, Scratched}
+use Rattle.engine.specs.Engine.{Call, sizes, checkedCall, Result, resultOf, endingOf, refusedOf, lastOf, lastEnding, laid, unless, runOf, Scratched}
 use Rattle.single.specs.declared.Mark.{Mark}
 use Rattle.single.specs.Single.{markAs, markOf, dcCall, cleared, Marked, markedOf, markedRun, Single, singleOf, singleIn, fresh, alone, jobCall, single, jobSizes}
 
@@ -35,8 +35,8 @@ any-scratch o nodes sources sheet points b b₁ s e e₁ v y h k = rw (h, k) (go
     d = dcCall o nodes sources sheet points b₁ s e₁ v y
 
     go : (x : Checked)
-        → singleIn (unless x (resultOf (endingOf (lastOf c .counters)) (laid (sizes c) (lastOf c .buffers) (c .lent))) (resultOf (refusedOf x) (c .lent)))
-        ≡ singleIn (unless x (resultOf (endingOf (lastOf d .counters)) (laid (sizes c) (lastOf d .buffers) (d .lent))) (resultOf (refusedOf x) (d .lent)))
+        → singleIn (unless x (resultOf (lastEnding c) (laid (sizes c) (lastOf c .buffers) (c .lent))) (resultOf (refusedOf x) (c .lent)))
+        ≡ singleIn (unless x (resultOf (lastEnding d) (laid (sizes c) (lastOf d .buffers) (d .lent))) (resultOf (refusedOf x) (d .lent)))
     go Clean = refl
     go (Faulty k i) = refl
 
@@ -57,11 +57,11 @@ module _ (c : Call) where
   -- a job that runs, and one that is refused
   abbrev pub ranSingle : Single
   ranSingle =
-      singleOf (markAs (verdictOf (last .counters)) 0 (last .counters .passes)) (last .buffers .vector ++ drop (order (sizes c)) (zerosLike (c .lent .vector)))
+      singleOf (markAs (verdictOf (last .counters)) 0 (last .counters .passes) (behindIn (c .job .options) (c .sheet) (last .buffers))) (last .buffers .vector ++ drop (order (sizes c)) (zerosLike (c .lent .vector)))
       (last .buffers .system ++ drop (cells (sizes c)) (zerosLike (c .lent .system)))
 
   abbrev pub refusedSingle : ℕ → ℕ → Single
-  refusedSingle k i = singleOf (markAs k i 0) (zerosLike (c .lent .vector)) (zerosLike (c .lent .system))
+  refusedSingle k i = singleOf (markAs k i 0 0) (zerosLike (c .lent .vector)) (zerosLike (c .lent .system))
 
   -- what holds of both holds of every job
   pub by-check : (P : Single → Type 0) → (checkedCall c ≡ Clean → P ranSingle) → ((k i : ℕ) → checkedCall c ≡ Faulty k i → P (refusedSingle k i)) → P (alone c)

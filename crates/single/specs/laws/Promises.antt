@@ -203,7 +203,7 @@ module _ (o : Options) (nodes sources : ℕ) (sheet points : List ℕ) where
   single-spent e = alone-spent c refl (ap (sizesRefusal o) (job-sizes o nodes sources sheet points) ∙ e)
 
   -- a job that is refused by k at the record i
-  pub single-refused : (k i : ℕ) → checkedOf o z sheet ≡ Faulty k i → single o nodes sources sheet points ≡ singleOf (markAs k i 0) (replicate (nodes + sources) nought) (replicate ((nodes + sources) * (nodes + sources + 1)) nought)
+  pub single-refused : (k i : ℕ) → checkedOf o z sheet ≡ Faulty k i → single o nodes sources sheet points ≡ singleOf (markAs k i 0 0) (replicate (nodes + sources) nought) (replicate ((nodes + sources) * (nodes + sources + 1)) nought)
   unfolding single
   single-refused k i e = rw (length-replicate (order z) nought, length-replicate (cells z) nought) at (alone-refused c k i (job-check ∙ e))
 

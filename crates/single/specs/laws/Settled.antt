@@ -27,9 +27,10 @@ use Rattle.numbers.specs.Verdicts.{settled, passesUsed, diodeCurrent}
 use Rattle.steps.specs.Phases.{transientPhase}
 use Rattle.steps.specs.Counters.{top, counted, going, verdictOf}
 use Rattle.steps.specs.Control.{reportOf, failed, dcOver, dcAfter}
+use Rattle.steps.specs.laws.Waited.{waited-yes}
 use Rattle.steps.specs.declared.Job.{Job}
 use Rattle.machine.specs.State.{State, Attempt, writtenOf}
-use Rattle.machine.specs.Machine.{before, tried, triedBy, writtenBy, dcPass, pass, runFor}
+use Rattle.machine.specs.Machine.{before, compared, tried, triedBy, writtenBy, dcPass, pass, runFor}
 use Rattle.machine.specs.laws.Budget.{pass-stopped}
 use Rattle.passes.specs.Attempt.{attemptOf}
 use Rattle.engine.specs.Work.{startOf, endOf}
@@ -83,11 +84,11 @@ yes-reported false false r e = absurd (let z : _≡_ {A = ℕ} 0 1 = cc in omega
 
 module _ (f : Attempt) (j : Job) (s : State) where
   tried-finite : triedBy f j s .report ≡ Yes → AllFinite (triedBy f j s .vector)
-  unfolding tried
+  unfolding tried compared
   tried-finite e =
       let a = f (s .counters) (s .accepted) (s .buffers) in
       yes-finite (a .vector) (before (s .counters .first) (s .buffers .vector)) (j .nodes) (j .options)
-      (yes-check _ (yes-reported (eqb (a .fault) 0) (eqb (a .fault) diodeCurrent) _ e))
+      (yes-check _ (yes-reported (eqb (a .fault) 0) (eqb (a .fault) diodeCurrent) _ (waited-yes (j .options) (a .behind) _ e)))
 
 -- ---- the run
 

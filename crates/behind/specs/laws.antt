@@ -1,0 +1,3 @@
+-- What is proved of diodes that are behind.
+pub mod Quiet
+pub mod First

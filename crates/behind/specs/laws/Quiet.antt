@@ -1,0 +1,24 @@
+-- Only a diode can be behind. Assumes nothing.
+use mathlib.Core.Path.{refl}
+use mathlib.Core.Bool.{false, false≢true}
+use mathlib.Core.List.{List}
+use lib.Ieee.{Float}
+use Rattle.numbers.specs.Kinds.{diode}
+use Rattle.options.specs.declared.Options.{Options}
+use Rattle.sheet.specs.declared.Element.the-variants.{R, I, «V», D, Isin, Vsin, Vpwl, C, Vcvs, Vccs}
+use Rattle.sheet.specs.Kind.{kindOf}
+use Rattle.groups.specs.laws.Passing.{Quiet}
+use Rattle.behind.specs.Behind.{diodeBehind}
+
+pub quiet-behind : (o : Options) (x : List Float) (y : Float) → Quiet diode diode (diodeBehind o x y) false
+unfolding kindOf diodeBehind
+quiet-behind o x y (R p q a) h = refl
+quiet-behind o x y (I p q a) h = refl
+quiet-behind o x y («V» p q a s) h = refl
+quiet-behind o x y (D p q a b) h = absurd (false≢true h)
+quiet-behind o x y (Isin p q a b z) h = refl
+quiet-behind o x y (Vsin p q a b z s) h = refl
+quiet-behind o x y (Vpwl p q a b f k s) h = refl
+quiet-behind o x y (C p q a) h = refl
+quiet-behind o x y (Vcvs p q cp cq a s) h = refl
+quiet-behind o x y (Vccs p q cp cq a) h = refl
