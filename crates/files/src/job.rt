@@ -138,15 +138,16 @@ fn report(g: Going, run: Run, rows: &[f64], h: Head, sheet: &[u8], tolerances: &
 
 // Says how a run ended, whether a diode is behind, its vector and its rows.
 fn ended(p: Pen, e: Ending, rooms: Rooms, rows: &[f64], h: Head, sheet: &[u8]) -> Pen {
-    let vector = rooms.vector;
     let q = behind(say::ended(p, e, h.transient), e.behind, rooms, h, sheet);
-    let r = say::vector(q, &vector, h.nodes, h.sources);
-    say::rows(
-        r,
-        rows,
-        e.rows,
-        std::num::wrapping_add_u64(h.nodes, h.sources),
-    )
+    solved(q, e.rows, rooms, rows, h)
+}
+
+// Says the vector and the rows of a run.
+fn solved(p: Pen, count: u64, rooms: Rooms, rows: &[f64], h: Head) -> Pen {
+    let vector = rooms.vector;
+    let q = say::vector(p, &vector, h.nodes, h.sources);
+    let n = std::num::wrapping_add_u64(h.nodes, h.sources);
+    say::rows(q, rows, count, n)
 }
 
 // Says that a diode is behind, by its record's place and 1, with both of its voltages; 0 is none.

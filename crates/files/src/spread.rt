@@ -101,10 +101,20 @@ fn fault(g: Going, name: &[u8], sentence: &[u8]) -> Going {
 // How a call ended, and what it left for each job and over all.
 struct Left {
     outcome: Soundings,
+    by_job: ByJob,
+    over_all: OverAll,
+}
+
+// For each job its vector, its cause with the place of that, and its passes.
+struct ByJob {
     vectors: [f64; JOBS * UNKNOWNS],
     causes: [u64; JOBS],
     places: [u64; JOBS],
     passes: [u64; JOBS],
+}
+
+// The counts of the causes, and the exact sums over the settled jobs and over the sound ones.
+struct OverAll {
     counts: [u64; JOB_CAUSES],
     plus: [u64; SUM_LIMBS],
     minus: [u64; SUM_LIMBS],
@@ -159,17 +169,23 @@ fn run_whole(h: Spreads, sheets: &[u8], points: &[u8], tolerances: &[f64]) -> Le
         &mut sound_plus,
         &mut sound_minus,
     );
-    Left {
-        outcome,
+    let by_job = ByJob {
         vectors,
         causes,
         places,
         passes,
+    };
+    let over_all = OverAll {
         counts,
         plus,
         minus,
         sound_plus,
         sound_minus,
+    };
+    Left {
+        outcome,
+        by_job,
+        over_all,
     }
 }
 
@@ -211,26 +227,46 @@ fn report_done(
     sheets: &[u8],
     points: &[u8],
 ) -> Pen {
-    let counts = left.counts;
+    let by_job = left.by_job;
+    let over_all = left.over_all;
     let settled = d.settled;
     let sound = d.sound;
-    let q = say::counts(p, &counts, h.jobs, h.tolerances != 0);
+    let q = report_counts(p, over_all, h);
     let r = say::not_sound_line(q, settled.settled, sound.settled);
-    let s = not_sound(r, left, h, sheets, points);
-    report_jobs(report_values(s, left, d), left, settled.settled, h)
+    let s = not_sound(r, by_job, h, sheets, points);
+    let t = report_values(s, over_all, d);
+    report_runs(report_unsettled(t, by_job, settled.settled, h), by_job, h)
 }
 
-// Every settled job that is not sound, with its sheet. The sheets are all of one length.
-fn not_sound(p: Pen, left: Left, h: Spreads, sheets: &[u8], points: &[u8]) -> Pen {
-    let causes = left.causes;
-    let places = left.places;
-    let bytes = each(sheets, h.jobs as usize);
+fn report_counts(p: Pen, x: OverAll, h: Spreads) -> Pen {
+    let counts = x.counts;
+    say::counts(p, &counts, h.jobs, h.tolerances != 0)
+}
+
+// Every settled job that is not sound.
+fn not_sound(p: Pen, x: ByJob, h: Spreads, sheets: &[u8], points: &[u8]) -> Pen {
+    let causes = x.causes;
+    let places = x.places;
+    not_sound_jobs(p, &causes, &places, h.jobs, h, sheets, points)
+}
+
+// The same by their causes and places, each with its sheet. The sheets are all of one length.
+fn not_sound_jobs(
+    p: Pen,
+    causes: &[u64],
+    places: &[u64],
+    jobs: u64,
+    h: Spreads,
+    sheets: &[u8],
+    points: &[u8],
+) -> Pen {
+    let bytes = each(sheets, jobs as usize);
     let mut q = p;
     let mut at: usize = 0;
-    for j in 0..h.jobs {
+    for j in 0..jobs {
         let k = j as usize;
-        let c = word_in(&causes, k);
-        let i = word_in(&places, k);
+        let c = word_in(causes, k);
+        let i = word_in(places, k);
         q = not_sound_job(q, j, c, i, h, sheet_at(sheets, at, bytes), points);
         at = wrapping_add_usize(at, bytes);
     }
@@ -307,29 +343,43 @@ fn volts_again(place: usize, h: Spreads, sheet: &[u8], points: &[u8]) -> Volts {
     volts_of(sheet, place, &vector, &memory)
 }
 
-// What is over all jobs.
-fn report_values(p: Pen, left: Left, d: Reports) -> Pen {
-    let plus = left.plus;
-    let minus = left.minus;
-    let sound_plus = left.sound_plus;
-    let sound_minus = left.sound_minus;
+// The chosen unknown over the sound jobs, and over the settled ones.
+fn report_values(p: Pen, x: OverAll, d: Reports) -> Pen {
     let settled = d.settled;
     let sound = d.sound;
-    let m = mean::mean(&plus, &minus, settled.settled);
-    let n = mean::mean(&sound_plus, &sound_minus, sound.settled);
-    say::range(p, sound, n, settled, m)
+    let m = settled_mean(x, settled.settled);
+    say::range(p, sound, sound_mean(x, sound.settled), settled, m)
 }
 
-// What is by job.
-fn report_jobs(p: Pen, left: Left, settled: u64, h: Spreads) -> Pen {
-    let causes = left.causes;
-    let places = left.places;
-    let passes = left.passes;
-    let vectors = left.vectors;
+fn settled_mean(x: OverAll, n: u64) -> f64 {
+    let plus = x.plus;
+    let minus = x.minus;
+    mean::mean(&plus, &minus, n)
+}
+
+fn sound_mean(x: OverAll, n: u64) -> f64 {
+    let plus = x.sound_plus;
+    let minus = x.sound_minus;
+    mean::mean(&plus, &minus, n)
+}
+
+// Every run that did not settle.
+fn report_unsettled(p: Pen, x: ByJob, settled: u64, h: Spreads) -> Pen {
+    let causes = x.causes;
+    let places = x.places;
+    let passes = x.passes;
+    say::unsettled(p, &causes, &places, &passes, h.jobs, settled)
+}
+
+// For a machine, every run.
+fn report_runs(p: Pen, x: ByJob, h: Spreads) -> Pen {
+    let vectors = x.vectors;
+    let causes = x.causes;
+    let places = x.places;
+    let passes = x.passes;
     let n = std::num::wrapping_add_u64(h.nodes, h.sources);
-    let q = say::unsettled(p, &causes, &places, &passes, h.jobs, settled);
     say::runs(
-        q, &causes, &places, &passes, &vectors, h.jobs, n, h.unknown,
+        p, &causes, &places, &passes, &vectors, h.jobs, n, h.unknown,
     )
 }
 
