@@ -16,14 +16,16 @@ pub enum Behind {
     At(usize),
 }
 
-// The first record of a sheet whose diode is behind at this vector, with this memory.
+// The first record of a sheet whose diode is behind at this vector, with this memory. A record of another kind is passed by on its kind byte: most circuits have few diodes, and every run asks.
 pub fn first_behind(o: Options, sheet: &[u8], vector: &[f64], memory: &[f64]) -> Behind
     ensures { λ r. ⌜ r ≡ firstBehind o (now (sheet .entry)) (now (vector .entry)) (now (memory .entry)) ⌝ }
 {
     let count = sheet::records(sheet);
     for i in 0..count {
-        if behind_at(o, sheet, i, vector, memory) {
-            return Behind::At(i);
+        if sheet::kind_at(sheet, i) == DIODE {
+            if behind_at(o, sheet, i, vector, memory) {
+                return Behind::At(i);
+            }
         }
     }
     Behind::Nowhere

@@ -80,6 +80,9 @@ pub fn attempt(
         vector,
         memory,
     );
+    if j.options.catchup == 0 {
+        return r;
+    }
     wait(j.options, sheet, vector, memory, r)
 }
 

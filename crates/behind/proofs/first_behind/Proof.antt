@@ -1,12 +1,14 @@
 -- `behind::first_behind` meets its contract: what is first from the turn's record on is first in all. Assumes nothing.
 use Prim.Native.Nat.{ℕ, _+_, _-_, _≤_, _<_, suc}
-use mathlib.Core.Path.{_≡_, sym, _∙_}
+use mathlib.Core.Path.{_≡_, refl, sym, _∙_}
+use mathlib.Core.Logic.{⊎-elim}
 use mathlib.Core.Bool.{Bool, true, false}
 use native.Mathlib.Omega.{arith}
 use native.Mathlib.Nat.{sub-zero}
 use borrow.Author.Needs.{needs}
 use Rattle.behind.specs.declared.Behind.the-variants.{At}
 use Rattle.behind.specs.Behind.{behindAt, firstFrom, firstBehind}
+use Rattle.behind.specs.laws.Quiet.{other-kind}
 use Rattle.behind.proofs.first_behind.Statement.{statement}
 use Rattle.behind.proofs.first_behind.Tie as tie
 
@@ -32,15 +34,20 @@ loop-holds c = (omega arith, rw (sub-zero, c .records .ensures))
 
 returns : tie.Need-returns Inv-loop μ-loop
 returns c =
-    let l = c .before .before .before .loop in
-    let a = c .before .before .before .before .before .before .before .before .args in
-    sym (found (behindAt (a .o) (a .sheet .now) (a .vector .now) (a .memory .now)) (c .before .before .before .before .records .result) (l .i) (c .before .before .loop-test .taken) (c .before .behind-at .ensures) (c .if1 .taken)) ∙ l .inv .1
+    let l = c .before .before .before .before .before .loop in
+    let a = c .before .before .before .before .before .before .before .before .before .before .args in
+    sym (found (behindAt (a .o) (a .sheet .now) (a .vector .now) (a .memory .now)) (c .before .before .before .before .before .before .records .result) (l .i) (c .before .before .before .before .loop-test .taken) (c .before .behind-at .ensures) (c .if2 .taken)) ∙ l .inv .1
 
 loop-again : tie.Need-loop-again Inv-loop μ-loop
 loop-again c =
     let l = c .before .before .before .loop in
-    let a = c .before .before .before .before .before .before .before .before .args in
-    (omega arith, passed (behindAt (a .o) (a .sheet .now) (a .vector .now) (a .memory .now)) (c .before .before .before .before .records .result) (l .i) (c .before .before .loop-test .taken) (c .before .behind-at .ensures) (c .if1 .left) ∙ l .inv .1)
+    let a = c .before .before .before .before .before .before .before .before .args in (
+      omega arith,
+      ⊎-elim
+          (λ u. passed (behindAt (a .o) (a .sheet .now) (a .vector .now) (a .memory .now)) (c .before .before .before .before .records .result) (l .i) (c .before .before .loop-test .taken) (u .1 .ensures) (u .2 .left) ∙ l .inv .1)
+          (λ u. passed (behindAt (a .o) (a .sheet .now) (a .vector .now) (a .memory .now)) (c .before .before .before .before .records .result) (l .i) (c .before .before .loop-test .taken) (sym (other-kind _ _ _ _ _ (λ e. u .left (c .before .kind-at .ensures ∙ e)))) refl ∙ l .inv .1)
+          (c .if1 .came),
+    )
 
 returns-2 : tie.Need-returns-2 Inv-loop μ-loop
 unfolding firstFrom
@@ -50,4 +57,4 @@ returns-2 c =
     rw e at (l .inv .1)
 
 pub first-behind-spec : {M : Type 1} → statement M
-first-behind-spec = tie.close (tie.spec Inv-loop μ-loop (λ c κs. search needs) loop-holds (λ c κs. search needs) returns (λ c. search needs) (λ c. search needs) loop-again returns-2)
+first-behind-spec = tie.close (tie.spec Inv-loop μ-loop (λ c κs. search needs) loop-holds (λ c κs. search needs) (λ c κs. search needs) returns (λ c. search needs) (λ c. search needs) loop-again returns-2)

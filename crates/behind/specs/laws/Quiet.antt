@@ -1,5 +1,6 @@
 -- Only a diode can be behind. Assumes nothing.
-use mathlib.Core.Path.{refl}
+use Prim.Native.Nat.{ℕ}
+use mathlib.Core.Path.{_≡_, refl}
 use mathlib.Core.Bool.{false, false≢true}
 use mathlib.Core.List.{List}
 use lib.Ieee.{Float}
@@ -7,8 +8,10 @@ use Rattle.numbers.specs.Kinds.{diode}
 use Rattle.options.specs.declared.Options.{Options}
 use Rattle.sheet.specs.declared.Element.the-variants.{R, I, «V», D, Isin, Vsin, Vpwl, C, Vcvs, Vccs}
 use Rattle.sheet.specs.Kind.{kindOf}
-use Rattle.groups.specs.laws.Passing.{Quiet}
-use Rattle.behind.specs.Behind.{diodeBehind}
+use Rattle.sheet.specs.Record.{kindAt}
+use Rattle.groups.specs.Records.{recordIn}
+use Rattle.groups.specs.laws.Passing.{apart, Quiet}
+use Rattle.behind.specs.Behind.{diodeBehind, behindAt}
 
 pub quiet-behind : (o : Options) (x : List Float) (y : Float) → Quiet diode diode (diodeBehind o x y) false
 unfolding kindOf diodeBehind
@@ -22,3 +25,8 @@ quiet-behind o x y (Vpwl p q a b f k s) h = refl
 quiet-behind o x y (C p q a) h = refl
 quiet-behind o x y (Vcvs p q cp cq a s) h = refl
 quiet-behind o x y (Vccs p q cp cq a) h = refl
+
+-- a record of another kind is not behind
+pub other-kind : (o : Options) (sheet : List ℕ) (x memory : List Float) (i : ℕ) → (kindAt sheet i ≡ diode → ⊥) → behindAt o sheet x memory i ≡ false
+unfolding behindAt recordIn
+other-kind o sheet x memory i h = rw (apart diode (kindAt sheet i) h)
