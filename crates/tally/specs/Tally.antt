@@ -1,4 +1,4 @@
--- The report: of each job its number and its value of the chosen unknown. Clients cite howMany, summed, withJob, reportOver, sumOf, netSum, countsAfter and totalsAfter.
+-- The report: of each job its number and its value of the chosen unknown. Clients cite howMany, summed, withJob, reportOver, sumOf, netSum, countsAfter, countsTo and totalsAfter.
 use Prim.Native.Nat.{ℕ, zero, suc, _+_, _*_, _/_, _≤_, _<_}
 use mathlib.Core.Path.{_≡_}
 use mathlib.Core.Bool.{Bool, true, false, cond, not, _&&_, _||_}
@@ -119,6 +119,11 @@ pub record Summable (jobs n unknown : ℕ) (numbers : List ℕ) (vectors : List 
 unfoldable pub countsAfter : List ℕ → ℕ → List ℕ → List ℕ
 countsAfter numbers jobs counts =
     cond (leb jobs (length numbers) && leb jobNumbers (length counts)) (each (howMany (numberIn numbers) jobs) jobNumbers ++ drop jobNumbers counts) counts
+
+-- the same for each number below so many kinds
+unfoldable pub countsTo : ℕ → List ℕ → ℕ → List ℕ → List ℕ
+countsTo kinds numbers jobs counts =
+    cond (leb jobs (length numbers) && leb kinds (length counts)) (each (howMany (numberIn numbers) jobs) kinds ++ drop kinds counts) counts
 
 -- at most 256 jobs, a number for each, n values for each, and the chosen one among them
 unfoldable pub holdsJobs : ℕ → ℕ → ℕ → ℕ → ℕ → Bool

@@ -10,10 +10,10 @@ ghost use Prim.Native.Nat.{_+_, _-_, _^_, _≤_, _<_};
 ghost use lib.Dec.{eqb};
 ghost use lib.ListN.{length, drop};
 ghost use lib.Ieee.Scale.{finite};
-ghost use Rattle.numbers.specs.Limits.{mostJobs, jobNumbers, sumLimbs};
+ghost use Rattle.numbers.specs.Limits.{mostJobs, sumLimbs};
 ghost use Rattle.numbers.specs.Verdicts.{settled};
 ghost use Rattle.loops.specs.Each.{each};
-ghost use Rattle.tally.specs.Tally.{nothing as nothingOf, numberIn, valueIn, howMany, lower as lowerOf, upper as upperOf, withJob, taken, totalsOf, totalsOver, Summable, countsAfter, holdsJobs, allFinite, ready as readyOf, totalsAfter};
+ghost use Rattle.tally.specs.Tally.{nothing as nothingOf, numberIn, valueIn, howMany, lower as lowerOf, upper as upperOf, withJob, taken, totalsOf, totalsOver, Summable, countsAfter, countsTo, holdsJobs, allFinite, ready as readyOf, totalsAfter};
 
 // Over the settled jobs: how many, and the smallest and the largest of the chosen unknown with the job where it stands, the earliest on a tie. All 0 where none settled.
 pub struct Report {
@@ -34,21 +34,28 @@ pub struct Peak {
 pub fn count_all(numbers: &[u64], jobs: usize, counts: &mut [u64])
     ensures { λ _. ⌜ now (counts .exit) ≡ countsAfter (now (numbers .entry)) jobs (now (counts .entry)) ⌝ }
 {
+    count_to(numbers, jobs, JOB_NUMBERS, counts);
+}
+
+// The same for each number below `kinds`.
+pub fn count_to(numbers: &[u64], jobs: usize, kinds: usize, counts: &mut [u64])
+    ensures { λ _. ⌜ now (counts .exit) ≡ countsTo kinds (now (numbers .entry)) jobs (now (counts .entry)) ⌝ }
+{
     if numbers.len() < jobs {
         return;
     }
-    if counts.len() < JOB_NUMBERS {
+    if counts.len() < kinds {
         return;
     }
-    count_each(numbers, jobs, counts);
+    count_each(numbers, jobs, kinds, counts);
 }
 
 // The same where there is room.
-fn count_each(numbers: &[u64], jobs: usize, counts: &mut [u64])
-    requires { ⌜ (jobs ≤ length (now numbers)) × (jobNumbers ≤ length (now counts)) ⌝ }
-    ensures { λ _. ⌜ now (counts .exit) ≡ each (howMany (numberIn (now (numbers .entry))) jobs) jobNumbers ++ drop jobNumbers (now (counts .entry)) ⌝ }
+fn count_each(numbers: &[u64], jobs: usize, kinds: usize, counts: &mut [u64])
+    requires { ⌜ (jobs ≤ length (now numbers)) × (kinds ≤ length (now counts)) ⌝ }
+    ensures { λ _. ⌜ now (counts .exit) ≡ each (howMany (numberIn (now (numbers .entry))) jobs) kinds ++ drop kinds (now (counts .entry)) ⌝ }
 {
-    for k in 0..JOB_NUMBERS {
+    for k in 0..kinds {
         counts[k] = count(numbers, jobs, k as u64);
     }
 }

@@ -12,10 +12,10 @@ use Rattle.tally.proofs.count_each.Statement.{statement}
 use Rattle.tally.proofs.count_each.Tie as tie
 
 abbrev Inv-loop : tie.InvT-loop
-Inv-loop numbers jobs counts₀ k₀ counts k = (k ≤ 27) × (length counts ≡ length counts₀) × (counts ≡ each (howMany (numberIn numbers) jobs) k ++ drop k counts₀)
+Inv-loop numbers jobs kinds counts₀ k₀ counts k = (k ≤ kinds) × (length counts ≡ length counts₀) × (counts ≡ each (howMany (numberIn numbers) jobs) k ++ drop k counts₀)
 
 abbrev μ-loop : tie.MeasureT-loop
-μ-loop numbers jobs counts₀ k₀ counts k = 27 - k
+μ-loop numbers jobs kinds counts₀ k₀ counts k = kinds - k
 
 loop-again : tie.Need-loop-again Inv-loop μ-loop
 loop-again c = let l = c .before .before .loop in
@@ -25,7 +25,7 @@ loop-again c = let l = c .before .before .loop in
 returns : tie.Need-returns Inv-loop μ-loop
 returns c = let l = c .before .loop in
     let a = c .before .before .before .before .args in
-    let e : l .k ≡ 27 = omega (arith, l .inv .0, c .loop-test .left) in
+    let e : l .k ≡ a .kinds = omega (arith, l .inv .0, c .loop-test .left) in
     l .inv .2 ∙ ap (λ (i : ℕ). each (howMany (numberIn (a .numbers .now)) (a .jobs)) i ++ drop i (a .counts .now)) e
 
 pub count-each-spec : {M : Type 1} → statement M

@@ -1,4 +1,4 @@
--- What the tests on lent lists tell, and that they pass where the lists hold the jobs: then the counts and the report are those over the jobs. Clients cite Room, room, finites, ready-summable, counts-made and totals-made.
+-- What the tests on lent lists tell, and that they pass where the lists hold the jobs: then the counts and the report are those over the jobs. Clients cite Room, room, finites, ready-summable, counts-of, kinds-made, counts-made and totals-made.
 -- Assumes nothing.
 use Prim.Native.Nat.{ℕ, zero, suc, _*_, _/_, _≤_, _<_}
 use mathlib.Core.Path.{_≡_, refl, sym, ap, _∙_, subst}
@@ -14,7 +14,7 @@ use lib.Ieee.Scale.{finite}
 use Rattle.numbers.specs.Limits.{mostJobs, jobNumbers, sumLimbs}
 use Rattle.numbers.specs.Verdicts.{settled}
 use Rattle.loops.specs.Each.{each}
-use Rattle.tally.specs.Tally.{numberIn, valueIn, howMany, totalsOver, Summable, countsAfter, holdsJobs, allFinite, ready, totalsAfter}
+use Rattle.tally.specs.Tally.{numberIn, valueIn, howMany, totalsOver, Summable, countsAfter, countsTo, holdsJobs, allFinite, ready, totalsAfter}
 
 -- ---- the lengths
 
@@ -95,7 +95,16 @@ module _ (jobs n unknown : ℕ) (numbers : List ℕ) (vectors : List Float) wher
       let h = held jobs n unknown (length numbers) (length vectors) (record { few = s .few; inside = s .inside; «number-room» = s .«number-room»; «vector-room» = s .«vector-room» }) in
       rw (h, eq-eqb (length p) sumLimbs hp, eq-eqb (length m) sumLimbs hm, all-finite (numberIn numbers) (valueIn n unknown vectors) jobs (s .finites))
 
+-- the 27 numbers are one of these
+pub counts-of : (numbers : List ℕ) (jobs : ℕ) (counts : List ℕ) → countsTo jobNumbers numbers jobs counts ≡ countsAfter numbers jobs counts
+unfolding countsTo countsAfter
+counts-of numbers jobs counts = refl
+
+pub kinds-made : (kinds : ℕ) (numbers : List ℕ) (jobs : ℕ) (counts : List ℕ) → jobs ≤ length numbers → kinds ≤ length counts
+    → countsTo kinds numbers jobs counts ≡ each (howMany (numberIn numbers) jobs) kinds ++ drop kinds counts
+unfolding countsTo
+kinds-made kinds numbers jobs counts h g = rw (le-leb jobs (length numbers) h, le-leb kinds (length counts) g)
+
 pub counts-made : (numbers : List ℕ) (jobs : ℕ) (counts : List ℕ) → jobs ≤ length numbers → jobNumbers ≤ length counts
     → countsAfter numbers jobs counts ≡ each (howMany (numberIn numbers) jobs) jobNumbers ++ drop jobNumbers counts
-unfolding countsAfter
-counts-made numbers jobs counts h g = rw (le-leb jobs (length numbers) h, le-leb jobNumbers (length counts) g)
+counts-made numbers jobs counts h g = sym (counts-of numbers jobs counts) ∙ kinds-made jobNumbers numbers jobs counts h g

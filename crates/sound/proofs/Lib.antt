@@ -1,0 +1,4 @@
+pub mod Parts
+pub mod Turn
+pub mod Sums
+pub mod Whole
