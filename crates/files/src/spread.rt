@@ -219,14 +219,7 @@ fn asked(p: Pen, h: Spreads) -> Pen {
 }
 
 // Says how many jobs have each cause, which settled ones are not sound, the range of the chosen unknown, and which jobs did not settle.
-fn report_done(
-    p: Pen,
-    left: Left,
-    d: Reports,
-    h: Spreads,
-    sheets: &[u8],
-    points: &[u8],
-) -> Pen {
+fn report_done(p: Pen, left: Left, d: Reports, h: Spreads, sheets: &[u8], points: &[u8]) -> Pen {
     let by_job = left.by_job;
     let over_all = left.over_all;
     let settled = d.settled;
@@ -378,9 +371,7 @@ fn report_runs(p: Pen, x: ByJob, h: Spreads) -> Pen {
     let places = x.places;
     let passes = x.passes;
     let n = std::num::wrapping_add_u64(h.nodes, h.sources);
-    say::runs(
-        p, &causes, &places, &passes, &vectors, h.jobs, n, h.unknown,
-    )
+    say::runs(p, &causes, &places, &passes, &vectors, h.jobs, n, h.unknown)
 }
 
 // Sheets of records of 40 bytes.

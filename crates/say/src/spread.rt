@@ -3,11 +3,11 @@ ghost use mathlib.Core.Path.{_≡_};
 ghost use Prim.Native.Nat.{min};
 ghost use Rattle.say.specs.Totals.{totalOf, shown, numberOf, numberCount};
 use super::cause;
+use numbers::cause::BEHIND;
+use numbers::cause::REJECTED;
 use numbers::limit::JOB_CAUSES;
 use numbers::limit::JOB_NUMBERS;
 use numbers::refusal::TOLERANCE;
-use numbers::cause::BEHIND;
-use numbers::cause::REJECTED;
 use pen::Pen;
 use pen::Unknown;
 use pen::at_job;
@@ -60,7 +60,10 @@ fn judging(p: Pen, tolerances: u64) -> Pen {
     if tolerances == 0 {
         return text(p, b"; not judged");
     }
-    text(print(text(p, b"; judged with "), tolerances), b" tolerances")
+    text(
+        print(text(p, b"; judged with "), tolerances),
+        b" tolerances",
+    )
 }
 
 fn waiting(p: Pen, catchup: u64) -> Pen {
@@ -126,7 +129,11 @@ pub fn counts(p: Pen, counts: &[u64], jobs: u64, judged: bool) -> Pen {
         return total_line(cause::causes(p, counts, judged), sum, jobs);
     }
     let q = total_record(numbers(p, counts), sum, jobs);
-    cause::causes(cause::sound_record(q, word_in(counts, 0), jobs), counts, judged)
+    cause::causes(
+        cause::sound_record(q, word_in(counts, 0), jobs),
+        counts,
+        judged,
+    )
 }
 
 fn total_line(p: Pen, sum: u64, jobs: u64) -> Pen {
@@ -273,7 +280,14 @@ pub fn runs(
     for i in 0..jobs {
         let k = i as usize;
         let c = word_in(causes, k);
-        q = run_record(at_job(q, i), number_of(c), word_in(passes, k), c, word_in(places, k), float_in(vectors, x));
+        q = run_record(
+            at_job(q, i),
+            number_of(c),
+            word_in(passes, k),
+            c,
+            word_in(places, k),
+            float_in(vectors, x),
+        );
         x = std::num::wrapping_add_usize(x, n as usize);
     }
     q

@@ -36,14 +36,26 @@ fn jobs(p: Pen) -> Pen {
 fn vector(p: Pen) -> Pen {
     let x = floats();
     let q = say::heading(pen::at_job(p, 1), false, 2, 14, 1);
-    let r = say::behind(say::ended(q, ending(21, 21, 0.0), false), 2, 5.0, 0.625, false);
+    let r = say::behind(
+        say::ended(q, ending(21, 21, 0.0), false),
+        2,
+        5.0,
+        0.625,
+        false,
+    );
     say::judged(say::vector(r, &x, 2, 14), Judged::Rejected(3))
 }
 
 fn row_after_row(p: Pen) -> Pen {
     let x = floats();
     let q = say::heading(pen::at_job(p, 2), true, 2, 1, 18446744073709551615);
-    let r = say::behind(say::ended(q, ending(0, 20, 2.5e-6), true), 2, 0.0 / 0.0, -0.0, true);
+    let r = say::behind(
+        say::ended(q, ending(0, 20, 2.5e-6), true),
+        2,
+        0.0 / 0.0,
+        -0.0,
+        true,
+    );
     say::judged(say::rows(r, &x, 4, 3), Judged::Refused(11))
 }
 

@@ -4,3 +4,4 @@ pub mod Compare
 pub mod Words
 pub mod Asked
 pub mod Status
+pub mod Spreads

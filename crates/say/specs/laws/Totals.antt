@@ -1,4 +1,4 @@
--- The chemist's total: the sum of the counts is the true one where it fits in 64 bits, and where a call answers a report it is the jobs given. Clients cite total-true and total-jobs. Assumes nothing.
+-- The chemist's total: the sum of the counts is the true one where it fits in 64 bits, and where a call answers a report it is the jobs given. Clients cite total-more, total-true, settled-true, numbers-total, total-jobs and numbers-jobs. Assumes nothing.
 use Prim.Native.Nat.{ℕ, _+_, _%_, _^_, _<_, _≤_}
 use mathlib.Core.Path.{_≡_, sym, ap, _∙_, subst}
 use mathlib.Core.List.{List}
@@ -10,6 +10,11 @@ use Rattle.numbers.specs.Limits.{jobNumbers, jobCauses}
 use Rattle.numbers.specs.Refusals.{byTolerance}
 use Rattle.numbers.specs.Verdicts.{settled}
 use Rattle.tally.specs.Tally.{summed}
+use Rattle.sound.specs.declared.reports.Reports.{Reports}
+use Rattle.sound.specs.declared.Soundings.{Soundings}
+use Rattle.sound.specs.declared.Soundings.the-variants.{Done}
+use Rattle.sound.specs.Sound.{Call, soundOf}
+use Rattle.sound.specs.laws.Promises.{Kept, every-call}
 use Rattle.say.specs.Totals.{countIn, settledIn, numberCount, totalOf}
 
 -- one count more, on a sum that wraps
@@ -40,3 +45,21 @@ settled-true counts h = go (countIn counts settled) (countIn counts byTolerance)
 -- The jobs by their own numbers are all the jobs by their causes: between the two no job is lost, and none counts twice.
 pub numbers-total : (counts : List ℕ) → summed (countIn counts) jobCauses < 2 ^ 64 → summed (numberCount counts) jobNumbers ≡ summed (countIn counts) jobCauses
 numbers-total counts h = omega (arith, settled-true counts h)
+
+-- the counts of a call are few
+below : (c : Call) (r : Reports) → soundOf c .answer ≡ Done r → summed (countIn (soundOf c .results .counts)) jobCauses < 2 ^ 64
+below c r h =
+    let k = subst (λ (a : Soundings). Kept c a (soundOf c .results)) h (every-call c) in
+    subst (λ (n : ℕ). n < 2 ^ 64) (sym (k .«counts-add-up»)) (omega (arith, k .fine .call .jobs .few))
+
+-- "The counts of sound and of every cause add up to the jobs given": where a call is done, what is written beside the jobs given is that very number,
+pub total-jobs : (c : Call) (r : Reports) → soundOf c .answer ≡ Done r → totalOf (soundOf c .results .counts) ≡ c .jobs
+total-jobs c r h =
+    let k = subst (λ (a : Soundings). Kept c a (soundOf c .results)) h (every-call c) in
+    total-true (soundOf c .results .counts) (below c r h) ∙ k .«counts-add-up»
+
+-- and the jobs by their own numbers, which the records of a machine have, add up to it, too.
+pub numbers-jobs : (c : Call) (r : Reports) → soundOf c .answer ≡ Done r → summed (numberCount (soundOf c .results .counts)) jobNumbers ≡ c .jobs
+numbers-jobs c r h =
+    let k = subst (λ (a : Soundings). Kept c a (soundOf c .results)) h (every-call c) in
+    numbers-total (soundOf c .results .counts) (below c r h) ∙ k .«counts-add-up»

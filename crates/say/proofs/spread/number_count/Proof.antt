@@ -12,15 +12,16 @@ returns-2 c = rw (ne-eqb _ _ (c .before .before .if1 .left), ne-eqb _ _ (c .befo
 -- the four counts of settled jobs, one after the other
 returns-3 : tie.Need-returns-3
 returns-3 c =
-    rw
-    (c .before .before .before .before .before .before .before .if2 .left,
-    c .wrapping-add-u643 .ensures,
-    c .before .word-in5 .ensures,
-    c .before .before .wrapping-add-u642 .ensures,
-    c .before .before .before .word-in4 .ensures,
-    c .before .before .before .before .wrapping-add-u64 .ensures,
-    c .before .before .before .before .before .word-in3 .ensures,
-    c .before .before .before .before .before .before .word-in2 .ensures)
+    rw (
+      c .before .before .before .before .before .before .before .if2 .left,
+      c .wrapping-add-u643 .ensures,
+      c .before .word-in5 .ensures,
+      c .before .before .wrapping-add-u642 .ensures,
+      c .before .before .before .word-in4 .ensures,
+      c .before .before .before .before .wrapping-add-u64 .ensures,
+      c .before .before .before .before .before .word-in3 .ensures,
+      c .before .before .before .before .before .before .word-in2 .ensures,
+    )
 
 pub number-count-spec : {M : Type 1} → statement M
 number-count-spec =
