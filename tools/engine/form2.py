@@ -1,11 +1,11 @@
 #!/usr/bin/env python3
 """Stored files in form 2 (docs/FORMATS.md), from those in form 1: the same jobs, with heads that say how many words they have.
 
-    form2.py            writes crates/engine_replay/data/answers2.bin and crates/savrunte_tool/data/front_end2.jobs and spreads2.jobs
+    form2.py            writes crates/engine_replay/data/answers2.bin and, in crates/savrunte_tool/data, front_end2.jobs, spreads2.jobs, waiting2.jobs, judged2.jobs and caught_up2.jobs
     form2.py --check    says whether they are what it would write
 
 The list of answers takes the directed jobs at the front of bench/answers.bin, and of the random ones behind them the first small one of every outcome. Some heads get words more than
-any version knows, all 0, and some lose the zeros at their end: neither changes a job.
+any version knows, all 0, and some lose the zeros at their end: neither changes a job. The last three have what form 1 cannot ask for: the option catchup, tolerances of spreads, and both.
 """
 import struct
 import sys
@@ -20,6 +20,8 @@ SPREADS = 8  # jobs of the file of spreads
 
 JOB, ANSWER, SPREAD = 29, 13, 24  # words of the heads in form 1
 MOST = 64  # words of a head
+TOLERANCES, CATCHUP, KNOWN = 25, 30, 31  # words that form 2 alone has, and how many are known
+TOLERANCE = 1e-9
 
 
 def word(b, k):
@@ -102,12 +104,33 @@ def spreads(b):
     return grown(fewer(b), SPREAD, first=b"SAVSPRD2", size=40)
 
 
+def put(b, place, n):
+    """The word at this place changed."""
+    return b[: 8 * place] + words(n) + b[8 * place + 8 :]
+
+
+def waiting(b):
+    """The jobs of a file of form 1, with the option catchup."""
+    all = [put(grown(j, JOB, size=KNOWN), CATCHUP, 1) for (j,) in items(b, 1)]
+    return b"SAVJOBS2" + words(len(all), max(map(len, all)), 0) + b"".join(all)
+
+
+def judged(b, catchup):
+    """The first spreads of a file of form 1, judged with one tolerance for each unknown."""
+    n = word(b, 2) + word(b, 3)
+    called = put(grown(fewer(b), SPREAD, first=b"SAVSPRD2", size=KNOWN), TOLERANCES, n)
+    return put(called, CATCHUP, catchup) + struct.pack(f"<{n}d", *[TOLERANCE] * n)
+
+
 def main():
     tool = DATA / "savrunte_tool" / "data"
     files = {
         DATA / "engine_replay" / "data" / "answers2.bin": answers((TOP / "bench" / "answers.bin").read_bytes()),
         tool / "front_end2.jobs": jobs((tool / "front_end.jobs").read_bytes()),
         tool / "spreads2.jobs": spreads((tool / "spreads.jobs").read_bytes()),
+        tool / "waiting2.jobs": waiting((tool / "front_end.jobs").read_bytes()),
+        tool / "judged2.jobs": judged((tool / "spreads.jobs").read_bytes(), 0),
+        tool / "caught_up2.jobs": judged((tool / "spreads.jobs").read_bytes(), 1),
     }
     if sys.argv[1:] == ["--check"]:
         same = all(p.exists() and p.read_bytes() == b for p, b in files.items())
