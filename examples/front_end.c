@@ -8,13 +8,13 @@
 
 #include "savrunte.h"
 
-/* The bytes of a job's numbers, and room for any job that runs, as docs/FORMATS.md names it; all of it starts as zeros. */
-enum { HEAD = 232, CELLS = 2360, UNKNOWNS = 64, MEMORY = 264, ROWS = 32768, SHEET = 10480, POINTS = 16640 };
+/* The words of a job's numbers, the options among them, and room for any job that runs, as docs/FORMATS.md names it; all of it starts as zeros. */
+enum { HEAD = 29, OPTIONS = 17, CELLS = 2360, UNKNOWNS = 64, MEMORY = 264, ROWS = 32768, SHEET = 10480, POINTS = 16640 };
 
-/* A job as it stands in the file, up to the floats lent; then what follows there. */
+/* A job's numbers, and then what follows in the file. */
 typedef struct job {
-    uint64_t bytes, transient, nodes, sources;
-    savrunte_options options;
+    uint64_t transient, nodes, sources;
+    savrunte_options options; /* form 1 has no catchup: it is off */
     uint64_t sheet_len, points_len, lent[6]; /* floats lent: base, system, elimination, vector, memory, rows */
     uint8_t sheet[SHEET], points[POINTS];
     double tolerances[UNKNOWNS];
@@ -38,11 +38,16 @@ static void take(FILE *file, void *to, size_t n, size_t room) {
 
 static job next_job(FILE *file) {
     job j;
+    uint64_t w[HEAD];
     memset(&j, 0, sizeof j);
-    take(file, &j, HEAD, sizeof j);
+    take(file, w, sizeof w, sizeof w);
+    j.transient = w[1], j.nodes = w[2], j.sources = w[3];
+    memcpy(&j.options, w + 4, 8 * OPTIONS);
+    j.sheet_len = w[21], j.points_len = w[22];
+    memcpy(j.lent, w + 23, sizeof j.lent);
     take(file, j.sheet, j.sheet_len, sizeof j.sheet);
     take(file, j.points, j.points_len, sizeof j.points);
-    size_t left = j.bytes - HEAD - (j.sheet_len + 7) / 8 * 8 - (j.points_len + 7) / 8 * 8;
+    size_t left = w[0] - sizeof w - (j.sheet_len + 7) / 8 * 8 - (j.points_len + 7) / 8 * 8;
     take(file, j.tolerances, left, sizeof j.tolerances);
     j.rows_judged = left / 8;
     return j;
@@ -57,7 +62,7 @@ static savrunte_transient_answer run(const job *j) {
     savrunte_dc_answer dc =
         savrunte_dc(j->sheet, j->sheet_len, j->points, j->points_len, j->nodes, j->sources, j->options, base, j->lent[0],
                     matrix, j->lent[1], elimination, j->lent[2], vector, j->lent[3], memory, j->lent[4]);
-    savrunte_transient_answer a = {dc.refusal, dc.place, dc.verdict, 0, dc.passes, 0, 0.0}; /* DC has no DC verdict before it */
+    savrunte_transient_answer a = {dc.refusal, dc.place, dc.verdict, 0, dc.passes, 0, 0.0, dc.behind}; /* DC has no DC verdict before it */
     return a;
 }
 
@@ -74,7 +79,7 @@ static uint64_t bits(double x) {
 static void print_headers(void) {
     printf("#job\tfile\tjob\tanalysis\tnodes\tsources\n"
            "#refused\tfile\tjob\tnumber\tplace\n"
-           "#ended\tfile\tjob\tverdict\tdc_verdict\tpasses\trows\tend_bits\n"
+           "#ended\tfile\tjob\tverdict\tdc_verdict\tpasses\trows\tend_bits\tbehind\n"
            "#unknown\tfile\tjob\tof\tindex\tvalue_bits\n"
            "#row\tfile\tjob\trow\ttime_bits\tvalues_bits\n"
            "#judged\tfile\tjob\tanswer\trow\tnumber\n");
@@ -121,8 +126,8 @@ static void run_and_print(uint64_t k, const job *j) {
         printf("refused\t0\t%" PRIu64 "\t%" PRIu64 "\t%" PRIu64 "\n", k, a.refusal, a.place);
         return;
     }
-    printf("ended\t0\t%" PRIu64 "\t%" PRIu64 "\t%" PRIu64 "\t%" PRIu64 "\t%" PRIu64 "\t%016" PRIx64 "\n", k, a.verdict, a.dc_verdict,
-           a.passes, a.rows, bits(a.end));
+    printf("ended\t0\t%" PRIu64 "\t%" PRIu64 "\t%" PRIu64 "\t%" PRIu64 "\t%" PRIu64 "\t%016" PRIx64 "\t%" PRIu64 "\n", k, a.verdict,
+           a.dc_verdict, a.passes, a.rows, bits(a.end), a.behind);
     print_unknowns(k, j);
     print_rows(k, j, a.rows);
     if (j->rows_judged != 0) {

@@ -55,19 +55,34 @@ enum savrunte_verdict {
     SAVRUNTE_SINE_REFUSED = 26      /* a sine source was refused by 12 */
 };
 
+/* What a job of savrunte_sound_spreads has beside these: sound, or one cause why it is not. A job that is refused, does not settle or
+ * is refused by the judge has that number, 6 to 10, 20, 21, 22, 24 or 11, as its cause. */
+enum savrunte_cause {
+    SAVRUNTE_SOUND = 0,             /* settled, no diode behind and, where tolerances are given, accepted by the judge */
+    SAVRUNTE_BEHIND = 27,           /* settled, but a diode is behind */
+    SAVRUNTE_REJECTED = 28          /* settled with no diode behind, but the judge rejects the vector */
+};
+
 /* ---- options and answers, all by value ---- */
 
-/* Any float bits are allowed. GMIN, BOLTZMANN and CHARGE of the Rust engine: 1e-12, 1.3806488e-23, 1.603e-19. */
+/* Any float bits are allowed. GMIN, BOLTZMANN and CHARGE of the Rust engine: 1e-12, 1.3806488e-23, 1.603e-19. catchup is 0 for off and
+ * anything else for on: then a pass that would settle counts as one that did not while a diode is behind in the vector just solved. */
 typedef struct savrunte_options {
     double reltol, vntol, abstol, tstart, tstop, tstep, fs, ft, rmin, rmax, gmin, boltzmann, charge;
-    uint64_t itl1, itl3, itl4, budget;
+    uint64_t itl1, itl3, itl4, budget, catchup;
 } savrunte_options;
+
+/* A diode is behind when the voltage v across it in a vector is not within |v| RELTOL + VNTOL of its memory y, the voltage that its
+ * limiting let through last: caught up means |v - y| <= |v| * RELTOL + VNTOL in double arithmetic, so that with a NaN it is behind.
+ * Where a run leaves such a diode its vector is not a solution for it, settled or not. An answer's `behind` is 0 for none, else 1 + the
+ * place of the first such record, by the vector and the memory that the run leaves, whatever its verdict. */
 
 typedef struct savrunte_dc_answer {
     uint64_t refusal; /* 0, or 1 to 10 */
     uint64_t place;   /* the faulty record, for 6 to 10 */
     uint64_t verdict; /* 0, 20, 21, 22 or 24 */
     uint64_t passes;  /* passes solved to the end */
+    uint64_t behind;  /* 0, or 1 + the place of the first diode that is behind */
 } savrunte_dc_answer;
 
 typedef struct savrunte_transient_answer {
@@ -76,6 +91,7 @@ typedef struct savrunte_transient_answer {
     uint64_t passes;     /* DC and transient together */
     uint64_t rows;       /* rows written */
     double end;          /* the time reached */
+    uint64_t behind;     /* as of DC; of the last vector alone, not of those before it */
 } savrunte_transient_answer;
 
 typedef struct savrunte_spreads_answer {
@@ -84,6 +100,16 @@ typedef struct savrunte_spreads_answer {
     double smallest, largest;          /* of the chosen unknown over the settled runs; 0.0 where none settled */
     uint64_t smallest_at, largest_at;  /* the jobs where they stand, the earliest on a tie; 0 where none settled */
 } savrunte_spreads_answer;
+
+typedef struct savrunte_sound_answer {
+    uint64_t refusal;                  /* as above */
+    uint64_t settled;                  /* this and the next four as above: over the settled runs, sound or not */
+    double smallest, largest;
+    uint64_t smallest_at, largest_at;
+    uint64_t sound;                    /* sound runs */
+    double sound_smallest, sound_largest;          /* of the chosen unknown over the sound runs; 0.0 where none is sound */
+    uint64_t sound_smallest_at, sound_largest_at;  /* the jobs where they stand, the earliest on a tie; 0 where none is sound */
+} savrunte_sound_answer;
 
 typedef struct savrunte_convergence_answer {
     uint64_t refusal; /* 0, or 5 when y is shorter than x */
@@ -158,6 +184,30 @@ savrunte_spreads_answer savrunte_spreads(
     uint64_t *plus, size_t plus_len,               /* 66 limbs: with minus, the exact sum of the chosen unknown over the settled */
     uint64_t *minus, size_t minus_len);            /* 66 limbs: runs, in units of 2^-2148, as the judge keeps sums */
 
+/* The same jobs, told apart into sound ones and others, each other one by its cause. The causes are asked for in this order, and the
+ * first that holds counts: its refusal (6 to 10); its verdict (20, 21, 22 or 24); a diode behind (27); the judge's refusal (11); the
+ * judge's rejection (28). The judge gets the last system and the vector of the job's run, and the tolerances, the same for every job;
+ * without tolerances nothing is judged. A job's number in savrunte_spreads is its cause, and 0 where that is 11, 27 or 28.
+ * Refusals as above and in that order; 5 also where there are tolerances, but fewer than N (of more, the first N count). */
+savrunte_sound_answer savrunte_sound_spreads(
+    const uint8_t *sheets, size_t sheets_len,
+    const uint8_t *points, size_t points_len,
+    const double *tolerances, size_t tolerances_len,   /* one for each row, or none: no judging */
+    size_t jobs, size_t nodes, size_t sources, size_t unknown, savrunte_options options,
+    double *base, size_t base_len,                 /* scratch, these four as above */
+    double *system, size_t system_len,
+    double *elimination, size_t elimination_len,
+    double *memory, size_t memory_len,
+    double *vectors, size_t vectors_len,           /* N floats for each job, zeros where it is refused */
+    uint64_t *causes, size_t causes_len,           /* one word for each job: 0 sound, or its cause */
+    uint64_t *places, size_t places_len,           /* one word for each job: the record for 6 to 10 and 27, the row for 28, else 0 */
+    uint64_t *passes, size_t passes_len,           /* one word for each job: passes solved to the end, 0 where refused */
+    uint64_t *counts, size_t counts_len,           /* 29 words: counts[k] is how many jobs have the cause k; they add up to jobs */
+    uint64_t *plus, size_t plus_len,               /* 66 limbs: with minus, the exact sum of the chosen unknown */
+    uint64_t *minus, size_t minus_len,             /* 66 limbs: over the settled runs */
+    uint64_t *sound_plus, size_t sound_plus_len,   /* 66 limbs: with sound_minus, the exact sum of the chosen unknown */
+    uint64_t *sound_minus, size_t sound_minus_len);/* 66 limbs: over the sound runs */
+
 /* The mean of such a sum: plus less minus over the count, rounded once to the nearest float. 0.0 for a sum of 0, for a count of 0
  * or from 2^32 on, and for rows that are not 66 limbs. */
 double savrunte_mean(const uint64_t *plus, size_t plus_len, const uint64_t *minus, size_t minus_len, uint64_t count);
@@ -172,6 +222,13 @@ uint64_t savrunte_solve(double *matrix, size_t matrix_len, double *vector, size_
  * by more than its tolerance (no) decides; without one it is yes. */
 savrunte_convergence_answer savrunte_convergence(
     const double *x, size_t x_len, const double *y, size_t y_len, size_t nodes, savrunte_options options);
+
+/* The first diode of a sheet that is behind in a vector, with this memory: 0 for none, else 1 + its place. RELTOL and VNTOL are read of
+ * the options. A number past the end of the vector or the memory counts as NaN; a record that is no diode, or that a run would refuse
+ * by 6 or 7, is never behind. */
+uint64_t savrunte_behind(
+    const uint8_t *sheet, size_t sheet_len, const double *vector, size_t vector_len, const double *memory, size_t memory_len,
+    savrunte_options options);
 
 /* Accepts exactly when in every row the coefficients times the vector less the right side, added up without any rounding,
  * is within that row's tolerance. Changes nothing. */

@@ -61,6 +61,9 @@ pub fn compare(job: &Job, left: &Answer, right: &Answer, scope: Scope) -> Vec<Di
     if scope.end {
         d.float("end", 0, left.end, right.end);
     }
+    if let (Some(left), Some(right)) = (left.behind, right.behind) {
+        d.number("behind", left, right);
+    }
     for buffer in [BASE, SYSTEM, VECTOR, MEMORY, ROWS] {
         d.floats(BUFFERS[buffer], &left.buffers[buffer], &right.buffers[buffer]);
     }

@@ -3,9 +3,10 @@
 
 use crate::compare::*;
 use crate::job::*;
-use crate::model::{self, Wrong, WRONG};
+use crate::model::{self, Wrong, WRONG, WRONG_BEHIND};
 use crate::oracle::plain;
 use crate::sides::{self, MUST_AGREE, OURS, PAIRS};
+use crate::waiting;
 
 /// A job made record by record.
 #[derive(Clone)]
@@ -141,12 +142,15 @@ pub struct Expected {
     pub verdict: u64,
     pub passes: u64,
     pub vector: Vec<f64>,
+    /// The diode that is behind, and one number of the vector to half a unit of its fourth decimal, where they are known.
+    pub behind: Option<u64>,
+    pub near: Option<(usize, f64)>,
     /// Times and one unknown's values, for a transient.
     pub rows: Vec<(f64, usize, f64)>,
 }
 
 fn dc_answer(verdict: u64, passes: u64, vector: &[f64]) -> Option<Expected> {
-    Some(Expected { verdict, passes, vector: vector.to_vec(), rows: Vec::new() })
+    Some(Expected { verdict, passes, vector: vector.to_vec(), behind: None, near: None, rows: Vec::new() })
 }
 
 pub struct Directed {
@@ -198,6 +202,8 @@ fn cases() -> Vec<(&'static str, Job, Option<Expected>)> {
                 verdict: 0,
                 passes: 8,
                 vector: vec![0.0, 0.875],
+                behind: Some(0),
+                near: None,
                 rows: vec![(0.0, 1, 1.0), (1.0, 1, 0.5), (2.0, 1, 0.75), (2.0, 1, 0.875)],
             }),
         ),
@@ -623,21 +629,26 @@ fn meets(d: &Directed, a: &Answer) -> bool {
         .all(|(k, (t, c, v))| same(a.buffers[ROWS][k * w], *t) && same(a.buffers[ROWS][k * w + 1 + c], *v));
     let vector = e.vector.iter().zip(&a.buffers[VECTOR]).all(|(x, y)| same(*x, *y));
     let count = e.rows.is_empty() || a.rows == e.rows.len() as u64;
-    a.verdict == e.verdict && a.passes == e.passes && vector && rows && count
+    let behind = e.behind.is_none() || a.behind == e.behind;
+    let near = e.near.map_or(true, |(i, x)| (a.buffers[VECTOR][i] - x).abs() <= 0.00005);
+    a.verdict == e.verdict && a.passes == e.passes && vector && rows && count && behind && near
 }
 
 /// Shows each with its answer.
 pub fn show_all() -> u64 {
-    for d in all() {
-        let a = sides::run(&d.job).answer;
+    for d in all().into_iter().chain(waiting::all()) {
+        let o = sides::run(&d.job);
+        let a = o.answer;
         println!("{}\n  {}", d.name, describe(&d.job));
         println!(
-            "  {}, DC verdict {}, passes {}, rows {}, end {:?}",
+            "  {}, DC verdict {}, passes {}, rows {}, end {:?}, diode behind {:?}, passes that waited {}",
             a.outcome(),
             a.dc_verdict,
             a.passes,
             a.rows,
-            a.end
+            a.end,
+            a.behind,
+            o.held
         );
         if a.refusal == 0 {
             let w = (d.job.nodes + d.job.sources) as usize + 1;
@@ -652,9 +663,10 @@ pub fn show_all() -> u64 {
 
 /// Runs them all; answers how many are amiss.
 pub fn run() -> u64 {
-    let list: Vec<Directed> = all().into_iter().chain(budgets()).collect();
+    let list: Vec<Directed> = all().into_iter().chain(budgets()).chain(waiting::all()).collect();
     let mut bad = 0;
     let (mut told, mut domain) = (0, 0);
+    let mut waited = Vec::new();
     for d in &list {
         let o = sides::run(&d.job);
         let mut amiss = Vec::new();
@@ -665,14 +677,16 @@ pub fn run() -> u64 {
         }
         if !meets(d, &o.answer) {
             amiss.push(format!(
-                "document 01 says otherwise: verdict {}, passes {}, vector {:?}",
-                o.answer.verdict, o.answer.passes, o.answer.buffers[VECTOR]
+                "expected otherwise: verdict {}, passes {}, diode behind {:?}, vector {:?}",
+                o.answer.verdict, o.answer.passes, o.answer.behind, o.answer.buffers[VECTOR]
             ));
         }
         if d.tells != Wrong::Nothing {
             let other = model::run(&d.job, &OURS, d.tells);
             if compare(&d.job, &other, &o.answer, ALL).is_empty() {
                 amiss.push("does not tell its wrong reading apart".to_string());
+            } else if WRONG_BEHIND.iter().any(|w| w.0 == d.tells) {
+                waited.push(d.tells);
             } else {
                 told += 1;
                 domain += o.domain as u64;
@@ -706,7 +720,9 @@ pub fn run() -> u64 {
         told,
         domain
     );
-    bad
+    let readings = WRONG_BEHIND.iter().filter(|w| waited.contains(&w.0)).count();
+    println!("  of diodes that are behind and of waiting: {} of {} wrong readings", readings, WRONG_BEHIND.len());
+    bad + (WRONG_BEHIND.len() - readings) as u64
 }
 
 /// Looks among random jobs for the smallest that tells a wrong reading apart, inside the domain.

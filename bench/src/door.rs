@@ -22,13 +22,13 @@ pub fn call(job: &Job, b: &mut [Vec<f64>; 6]) -> Answer {
     if job.transient {
         let a = lend!(savrunte_transient, [sheet, points], [nodes, sources, o],
             base: n[0], system: n[1], elimination: n[2], vector: n[3], memory: n[4], rows: n[5]);
-        let TransientAnswer { refusal, place, verdict, dc_verdict, passes, rows, end } = a;
-        Answer { refusal, place, verdict, dc_verdict, passes, rows, end, buffers }
+        let TransientAnswer { refusal, place, verdict, dc_verdict, passes, rows, end, behind } = a;
+        Answer { refusal, place, verdict, dc_verdict, passes, rows, end, behind: Some(behind), buffers }
     } else {
         let a = lend!(savrunte_dc, [sheet, points], [nodes, sources, o],
             base: n[0], system: n[1], elimination: n[2], vector: n[3], memory: n[4]);
-        let DcAnswer { refusal, place, verdict, passes } = a;
-        Answer { refusal, place, verdict, dc_verdict: 0, passes, rows: 0, end: 0.0, buffers }
+        let DcAnswer { refusal, place, verdict, passes, behind } = a;
+        Answer { refusal, place, verdict, dc_verdict: 0, passes, rows: 0, end: 0.0, behind: Some(behind), buffers }
     }
 }
 
@@ -41,22 +41,32 @@ pub fn run(job: &Job) -> Option<Answer> {
 }
 
 /// All spreads in one call, on buffers already lent: numbers only.
-pub fn call_spreads(call: &Call, floats: &mut [Vec<f64>; 5], words: &mut [Vec<u64>; 6]) -> SpreadsAnswer {
+pub fn call_spreads(call: &Call, floats: &mut [Vec<f64>; 5], words: &mut [Vec<u64>; 8]) -> SoundAnswer {
     let [base, system, elimination, memory, vectors] = floats;
-    let [numbers, places, passes, counts, plus, minus] = words;
+    let [numbers, places, passes, counts, plus, minus, sound_plus, sound_minus] = words;
     let (nodes, sources, unknown) = (call.nodes as usize, call.sources as usize, call.unknown as usize);
     // the buffers have a guard behind what is lent
     let (f, w) = (call.floats, call.words);
-    lend!(savrunte_spreads, [call.sheets, call.points], [call.jobs, nodes, sources, unknown, call.options],
+    if call.sound {
+        let t = &call.tolerances;
+        return lend!(savrunte_sound_spreads,
+            [call.sheets, call.points, t], [call.jobs, nodes, sources, unknown, call.options],
+            base: f[0], system: f[1], elimination: f[2], memory: f[3], vectors: f[4],
+            numbers: w[0], places: w[1], passes: w[2], counts: w[3], plus: w[4], minus: w[5],
+            sound_plus: w[6], sound_minus: w[7]);
+    }
+    let a = lend!(savrunte_spreads, [call.sheets, call.points], [call.jobs, nodes, sources, unknown, call.options],
         base: f[0], system: f[1], elimination: f[2], memory: f[3], vectors: f[4],
-        numbers: w[0], places: w[1], passes: w[2], counts: w[3], plus: w[4], minus: w[5])
+        numbers: w[0], places: w[1], passes: w[2], counts: w[3], plus: w[4], minus: w[5]);
+    let SpreadsAnswer { refusal, settled, smallest, largest, smallest_at, largest_at } = a;
+    SoundAnswer { refusal, settled, smallest, largest, smallest_at, largest_at, ..SoundAnswer::default() }
 }
 
 /// All spreads in one call: the whole report, buffers included.
-pub fn spreads(call: &Call) -> Report {
+pub fn spreads(call: &Call) -> Option<Report> {
     let (mut floats, mut words) = (call.lent_floats(), call.lent_words());
     let answer = call_spreads(call, &mut floats, &mut words);
-    Report { answer, floats, words }
+    Some(Report { answer, floats, words })
 }
 
 /// The refusal; the matrix is scratch, the vector holds the solution.
@@ -68,6 +78,12 @@ pub fn solve(n: usize, matrix: &mut [f64], vector: &mut [f64]) -> Option<u64> {
 pub fn convergence(x: &[f64], y: &[f64], nodes: u64, o: &Options) -> Option<(u64, u64)> {
     let a = unsafe { savrunte_convergence(x.as_ptr(), x.len(), y.as_ptr(), y.len(), nodes as usize, *o) };
     Some((a.refusal, a.state))
+}
+
+/// 0, or 1 + the place of the first diode that is behind.
+pub fn behind(sheet: &[u8], vector: &[f64], memory: &[f64], o: &Options) -> Option<u64> {
+    let (s, v, m) = (sheet.as_ptr(), vector.as_ptr(), memory.as_ptr());
+    Some(unsafe { savrunte_behind(s, sheet.len(), v, vector.len(), m, memory.len(), *o) })
 }
 
 /// Refusal and row.

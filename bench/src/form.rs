@@ -2,7 +2,7 @@
 //! so that later words can follow: one that is not there counts as 0.
 
 use crate::job::*;
-use crate::spread_calls::{Call, Report, MEMORY as CALL_MEMORY, VECTORS};
+use crate::spread_calls::{Call, Report, MEMORY as CALL_MEMORY, MINUS, VECTORS};
 use std::convert::TryInto;
 
 #[derive(Clone, Copy, Debug, PartialEq)]
@@ -17,14 +17,16 @@ const ANSWER_1: usize = 13;
 const SPREADS_1: usize = 24;
 
 /// Where the options of form 1 start in a job and in a call of spreads, and how many they are. These places stay: later options
-/// stand at the end of a head of form 2.
+/// stand at the end of a head of form 2, in a call of spreads at the same places as in a job.
 const OPTIONS_AT: usize = 4;
 const OPTIONS_1: usize = 17;
 
 /// Words that are known here, the count of form 2 left aside.
 const JOB_KNOWN: usize = JOB_1 + OPTIONS - OPTIONS_1;
-const ANSWER_KNOWN: usize = ANSWER_1;
-const SPREADS_KNOWN: usize = SPREADS_1 + OPTIONS - OPTIONS_1;
+const ANSWER_KNOWN: usize = ANSWER_1 + 1;
+
+/// Where a call of spreads has the number of its tolerances. Words from there to the later options are a job's alone.
+const TOLERANCES_AT: usize = SPREADS_1;
 
 /// How many words a head of form 2 can have.
 const MOST_HEAD: usize = 64;
@@ -99,22 +101,23 @@ fn two_parts(b: &[u8], from: usize, first: u64, second: u64) -> Option<(Vec<u8>,
     Some((b.get(start..middle)?.to_vec(), b.get(next..end(next, second)?)?.to_vec()))
 }
 
-/// The options among the known words of a head that has `old` words in form 1.
-fn options(head: &[u64], old: usize) -> Options {
+/// The options among the known words of the head of a job or a call of spreads.
+fn options(head: &[u64]) -> Options {
     let mut words = [0; OPTIONS];
     words[..OPTIONS_1].copy_from_slice(&head[OPTIONS_AT..OPTIONS_AT + OPTIONS_1]);
-    words[OPTIONS_1..].copy_from_slice(&head[old..]);
+    words[OPTIONS_1..].copy_from_slice(&head[JOB_1..]);
     Options::of_words(words)
 }
 
-/// The options that stand at the end of a head. Form 1 has no place for one that is set.
-fn later(options: &Options, form: Form) -> Vec<u64> {
-    let words = options.words()[OPTIONS_1..].to_vec();
-    match form {
-        Form::One if words.iter().any(|w| *w != 0) => panic!("form 1 has no place for a later option"),
-        Form::One => Vec::new(),
-        Form::Two => words,
+/// The words of a head with the later options behind them, as far as one is set. Form 1 has no place for one that is.
+fn with_later(mut words: Vec<u64>, old: usize, options: &Options, form: Form) -> Vec<u64> {
+    words.resize(JOB_1, 0);
+    words.extend_from_slice(&options.words()[OPTIONS_1..]);
+    while words.len() > old && words[words.len() - 1] == 0 {
+        words.pop();
     }
+    assert!(form == Form::Two || words.len() == old, "form 1 has no place for a later word");
+    words
 }
 
 impl Job {
@@ -124,8 +127,7 @@ impl Job {
         w.extend_from_slice(&self.options.words()[..OPTIONS_1]);
         w.extend_from_slice(&[self.sheet.len() as u64, self.points.len() as u64]);
         w.extend(self.lengths.iter().map(|l| *l as u64));
-        w.extend(later(&self.options, form));
-        let mut out = laid(form, w);
+        let mut out = laid(form, with_later(w, JOB_1, &self.options, form));
         padded(&mut out, &self.sheet);
         padded(&mut out, &self.points);
         sized(out)
@@ -139,7 +141,7 @@ impl Job {
         for (l, length) in lengths.iter_mut().zip(&w[23..]) {
             *l = *length as usize;
         }
-        let options = options(&w, JOB_1);
+        let options = options(&w);
         Some(Job { transient: w[1] == 1, nodes: w[2], sources: w[3], options, sheet, points, lengths })
     }
 }
@@ -168,6 +170,9 @@ impl Answer {
             [n * (n + 1), n * (n + 1), n, job.sheet.len() / RECORD, self.rows as usize * (n + 1)]
         };
         w.extend(lengths.iter().map(|l| *l as u64));
+        if form == Form::Two {
+            w.extend(self.behind);
+        }
         let mut out = laid(form, w);
         for (length, buffer) in lengths.iter().zip(ANSWERED) {
             out.extend(self.buffers[buffer][..*length].iter().flat_map(|x| plain(*x).to_le_bytes().to_vec()));
@@ -183,12 +188,14 @@ impl Answer {
         }
         let (w, mut at) = head(b, form, ANSWER_1, ANSWER_KNOWN)?;
         let mut answer = Answer::refused(job, w[1], w[2]);
+        // what is not there is not told
+        answer.behind = if at > ANSWER_1 + 1 { Some(w[ANSWER_1]) } else { None };
         answer.verdict = w[3];
         answer.dc_verdict = w[4];
         answer.passes = w[5];
         answer.rows = w[6];
         answer.end = f64::from_bits(w[7]);
-        for (buffer, count) in ANSWERED.iter().zip(&w[8..]) {
+        for (buffer, count) in ANSWERED.iter().zip(&w[8..ANSWER_1]) {
             let floats = answer.buffers[*buffer].get_mut(..usize::try_from(*count).ok()?)?;
             for float in floats {
                 *float = f64::from_bits(word(b, at)?);
@@ -202,32 +209,39 @@ impl Answer {
 impl Call {
     /// Reads a file of spreads; None where it is none.
     pub fn read(b: &[u8]) -> Option<Call> {
-        let (w, count) = head(b, form_of(b, SPREADS)?, SPREADS_1, SPREADS_KNOWN)?;
+        let (w, count) = head(b, form_of(b, SPREADS)?, SPREADS_1, JOB_KNOWN)?;
+        if w[TOLERANCES_AT + 1..JOB_1].iter().any(|word| *word != 0) {
+            return None;
+        }
         let (sheets, points) = two_parts(b, count, w[21], w[22])?;
+        let behind = count * 8 + (sheets.len() + 7) / 8 * 8 + (points.len() + 7) / 8 * 8;
+        let length = usize::try_from(w[TOLERANCES_AT]).ok()?.checked_mul(8)?;
+        let floats = b.get(behind..behind.checked_add(length)?)?;
         let mut call = Call {
             jobs: w[1] as usize,
             nodes: w[2],
             sources: w[3],
             unknown: w[23],
-            options: options(&w, SPREADS_1),
+            options: options(&w),
             sheets,
             points,
-            floats: [0; 5],
-            words: [0; 6],
+            tolerances: floats.chunks_exact(8).map(|f| f64::from_le_bytes(f.try_into().unwrap())).collect(),
+            ..Call::empty()
         };
         call.fit();
         Some(call)
     }
 
-    /// The bytes of a file of spreads: numbers, sheets and points.
+    /// The bytes of a file of spreads: numbers, sheets, points and tolerances.
     pub fn bytes(&self, form: Form) -> Vec<u8> {
         let mut w = vec![u64::from_le_bytes(*SPREADS[form as usize]), self.jobs as u64, self.nodes, self.sources];
         w.extend_from_slice(&self.options.words()[..OPTIONS_1]);
         w.extend_from_slice(&[self.sheets.len() as u64, self.points.len() as u64, self.unknown]);
-        w.extend(later(&self.options, form));
-        let mut out = laid(form, w);
+        w.push(self.tolerances.len() as u64);
+        let mut out = laid(form, with_later(w, SPREADS_1, &self.options, form));
         padded(&mut out, &self.sheets);
         padded(&mut out, &self.points);
+        out.extend(self.tolerances.iter().flat_map(|t| t.to_le_bytes()));
         out
     }
 }
@@ -237,12 +251,14 @@ impl Report {
     /// written, and what is written. A refused call writes nothing.
     pub fn bytes(&self, call: &Call, form: Form) -> Vec<u8> {
         let a = &self.answer;
-        let (floats, words) = if a.refusal != 0 { ([0; 5], [0; 6]) } else { call.needed() };
+        let (floats, words) = if a.refusal != 0 { ([0; 5], [0; 8]) } else { call.needed() };
+        // the last two are a sound call's
+        let words = &words[..MINUS + 1];
         let mut w: Vec<u64> = vec![0];
-        w.extend(call.floats.iter().chain(&call.words).map(|l| *l as u64));
+        w.extend(call.floats.iter().chain(&call.words[..MINUS + 1]).map(|l| *l as u64));
         w.extend([a.refusal, a.settled, plain(a.smallest), plain(a.largest), a.smallest_at, a.largest_at]);
         // the three matrices are scratch alike
-        w.extend([floats[0], floats[CALL_MEMORY], floats[VECTORS]].iter().chain(&words).map(|l| *l as u64));
+        w.extend([floats[0], floats[CALL_MEMORY], floats[VECTORS]].iter().chain(words).map(|l| *l as u64));
         let mut out = laid(form, w);
         out.extend(self.floats[VECTORS][..floats[VECTORS]].iter().flat_map(|x| plain(*x).to_le_bytes()));
         for (length, buffer) in words.iter().zip(&self.words) {
@@ -371,15 +387,15 @@ mod tests {
         for (job, answer) in list() {
             let answer = answer.unwrap();
             let pairs = [
-                (job.bytes(Form::One), job.bytes(Form::Two), JOB_1, JOB_KNOWN),
+                (job.bytes(Form::One), job.bytes(Form::Two), JOB_1, JOB_1),
                 (answer.bytes(&job, Form::One), answer.bytes(&job, Form::Two), ANSWER_1, ANSWER_KNOWN),
             ];
-            for (one, two, old, known) in pairs {
+            for (one, two, old, written) in pairs {
                 assert_eq!(word(&one, 0), Some(one.len() as u64));
                 assert_eq!(word(&two, 0), Some(two.len() as u64));
-                assert_eq!(word(&two, 1), Some(known as u64 + 1));
+                assert_eq!(word(&two, 1), Some(written as u64 + 1));
                 assert_eq!(two[16..8 * old + 8], one[8..8 * old]);
-                assert_eq!(two[8 * known + 8..], one[8 * old..]);
+                assert_eq!(two[8 * written + 8..], one[8 * old..]);
             }
         }
     }
@@ -399,6 +415,63 @@ mod tests {
             *w = 0;
         }
         assert_eq!(Job::read(&resized(&two, JOB_1 + 1, 0), Form::Two).unwrap().options.words(), words);
+    }
+
+    #[test]
+    fn the_option_is_word_30_of_jobs_and_spreads_and_the_diode_word_14_of_answers() {
+        let (mut job, answer) = list().into_iter().find(|(_, a)| a.as_ref().unwrap().behind != Some(0)).unwrap();
+        job.options.catchup = 1 << 63;
+        assert_eq!(word(&job.bytes(Form::Two), 30), Some(1 << 63));
+        let mut call = spread_calls::call(7, 0);
+        call.options.catchup = 77;
+        assert_eq!(word(&call.bytes(Form::Two), 30), Some(77));
+        assert_eq!(Call::read(&call.bytes(Form::Two)).unwrap().options.catchup, 77);
+        let answer = answer.unwrap();
+        let two = answer.bytes(&job, Form::Two);
+        assert_eq!(word(&two, 14), answer.behind);
+        assert_eq!(Answer::read(&two, &job, Form::Two).unwrap().behind, answer.behind);
+        // one that does not tell it
+        let untold = Answer { behind: None, ..answer.clone() }.bytes(&job, Form::Two);
+        assert_eq!((word(&untold, 1), untold.len() + 8), (Some(14), two.len()));
+        assert_eq!(Answer::read(&untold, &job, Form::Two).unwrap().behind, None);
+        assert_eq!(Answer::read(&answer.bytes(&job, Form::One), &job, Form::One).unwrap().behind, None);
+    }
+
+    #[test]
+    fn tolerances_stand_behind_the_points() {
+        for place in 0..200 {
+            let call = spread_calls::sound_call(7, place);
+            if call.jobs >= 1000 || call.unknowns() >= 100 {
+                continue;
+            }
+            let bytes = call.bytes(Form::Two);
+            let read = Call::read(&bytes).unwrap();
+            assert_eq!((&read.sheets, &read.points), (&call.sheets, &call.points));
+            let bits = |c: &Call| c.tolerances.iter().map(|t| t.to_bits()).collect::<Vec<u64>>();
+            assert_eq!((bits(&read), read.options.catchup), (bits(&call), call.options.catchup));
+            assert_eq!(read.bytes(Form::Two), bytes);
+            if !call.tolerances.is_empty() {
+                assert_eq!(word(&bytes, 25), Some(call.tolerances.len() as u64));
+                assert!(Call::read(&bytes[..bytes.len() - 8]).is_none());
+                for count in [call.tolerances.len() as u64 + 1, 1 << 61, u64::MAX] {
+                    assert!(Call::read(&with_word(&bytes, 25, count)).is_none());
+                }
+            }
+            // what a job has there a call has not
+            let grown = regrown(&bytes, 31, 0);
+            for i in 26..30 {
+                assert!(Call::read(&with_word(&grown, i, 1)).is_none());
+            }
+            assert!(Call::read(&grown).is_some());
+        }
+    }
+
+    #[test]
+    #[should_panic(expected = "form 1 has no place")]
+    fn form_1_has_no_option() {
+        let (mut job, _) = list().swap_remove(0);
+        job.options.catchup = 1;
+        job.bytes(Form::One);
     }
 
     #[test]
@@ -478,7 +551,7 @@ mod tests {
                 assert!(Call::read(&with_word(&two, 1, count)).is_none());
             }
             assert_eq!(Call::read(&regrown(&two, 64, 0)).unwrap().bytes(Form::One), one);
-            assert!(Call::read(&regrown(&two, SPREADS_KNOWN + 2, 1)).is_none());
+            assert!(Call::read(&regrown(&two, JOB_KNOWN + 2, 1)).is_none());
             assert_eq!(Call::read(&regrown(&two, 24, 0)).unwrap().unknown, 0);
         }
     }

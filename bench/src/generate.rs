@@ -16,6 +16,8 @@ pub enum Sort {
     HotDiodes,
     FastSines,
     Damaged,
+    /// Sources, and behind resistors nodes that diodes clamp, for the jobs that wait.
+    Clamped,
 }
 
 fn sort(r: &mut Random) -> Sort {
@@ -64,6 +66,7 @@ impl<'a> Maker<'a> {
             Sort::Wild => self.r.any(),
             Sort::Round => self.r.round(),
             Sort::HotDiodes => self.r.decades(-1.0, 4.0) * self.r.sign(),
+            Sort::Clamped => self.r.between(1.0, 12.0) * self.r.sign(),
             _ => match self.r.below(4) {
                 0 => self.r.round(),
                 1 => self.r.between(-1.0, 1.0),
@@ -76,6 +79,7 @@ impl<'a> Maker<'a> {
         match self.sort {
             Sort::Wild => self.r.any(),
             Sort::Round => self.r.pick(&[0.5, 1.0, 1.0, 2.0, 4.0, 10.0, -1.0]),
+            Sort::Clamped => self.r.decades(2.0, 6.0),
             _ => self.r.decades(-1.0, 6.0),
         }
     }
@@ -206,6 +210,34 @@ fn tie(m: &mut Maker, elements: &mut Vec<Element>) {
     }
 }
 
+/// Driven nodes, and behind a resistor each other node, with a diode to an earlier one or to ground.
+fn clamps(m: &mut Maker, sources: usize, elements: &mut Vec<Element>) {
+    let driven = sources.min(m.nodes.saturating_sub(1));
+    for k in 0..driven {
+        let kind = m.r.pick(&[3, 3, 3, 6, 7]);
+        let mut e = m.element(kind);
+        (e.a, e.b) = (1 + k as u16, 0);
+        elements.push(e);
+    }
+    for k in driven + 1..m.nodes {
+        let mut put = |m: &mut Maker, kind: u8, to: usize, turned: bool| {
+            let mut e = m.element(kind);
+            (e.a, e.b) = if turned { (to as u16, k as u16) } else { (k as u16, to as u16) };
+            elements.push(e);
+        };
+        let before = m.r.below(k);
+        put(m, 1, if driven > 0 { before.max(1) } else { before }, false);
+        let to = if m.r.one_in(3) { m.r.below(k) } else { 0 };
+        let turned = m.r.one_in(3);
+        put(m, 4, to, turned);
+        for kind in [1, 8, 2] {
+            if m.r.one_in(4) {
+                put(m, kind, 0, false);
+            }
+        }
+    }
+}
+
 fn options(r: &mut Random, sort: Sort) -> Options {
     let mut o = Options::usual();
     if r.one_in(3) {
@@ -283,6 +315,38 @@ pub fn job(seed: u64, place: u64) -> (Job, Sort) {
     (make(&mut r, sort), sort)
 }
 
+/// The job of a seed and a place with the option on: half of them the sorts above, half with diodes everywhere.
+pub fn waiting(seed: u64, place: u64) -> (Job, Sort) {
+    let mut r = Random::new(seed ^ 0x4341_5443_4855_5021, place);
+    let sort = if r.one_in(2) { sort(&mut r) } else { Sort::Clamped };
+    let mut job = make(&mut r, sort);
+    if sort == Sort::Clamped {
+        job.options.itl1 = r.pick(&[0, 1, 2, 5, 10, 50, 100]);
+        job.options.itl4 = r.pick(&[1, 2, 3, 5, 10, 50]);
+    }
+    if !r.one_in(4) {
+        loosen(&mut r, &mut job.options);
+    }
+    job.options.catchup = on(&mut r);
+    (job, sort)
+}
+
+/// The option on: any word but 0.
+pub fn on(r: &mut Random) -> u64 {
+    match r.below(8) {
+        0 => r.next().max(1),
+        1 => r.pick(&[2, 1 << 32, 1 << 63, u64::MAX]),
+        _ => 1,
+    }
+}
+
+/// Tolerances so wide that vectors agree before diodes have caught up. VNTOL, which these are asked by too, is wide less often.
+pub fn loosen(r: &mut Random, o: &mut Options) {
+    o.reltol = r.pick(&[1e-3, 1e-3, 0.01, 0.1, 0.5]);
+    o.vntol = r.pick(&[1e-6, 1e-6, 1e-3, 0.05, 1.0]);
+    o.abstol = r.pick(&[1e-6, 1e-3, 0.1, 10.0]);
+}
+
 /// A job of one sort.
 pub fn make(r: &mut Random, sort: Sort) -> Job {
     let unknowns = size(r);
@@ -298,6 +362,11 @@ pub fn make(r: &mut Random, sort: Sort) -> Job {
         _ => 1 + m.r.below(2 * nodes + 2),
     };
     let mut sources = 0;
+    if sort == Sort::Clamped {
+        clamps(&mut m, most_sources, &mut elements);
+        sources = most_sources;
+    }
+    let count = if sort == Sort::Clamped { m.r.below(3) } else { count };
     for _ in 0..count {
         let mut kind = match sort {
             Sort::HotDiodes if m.r.one_in(3) => 4,

@@ -29,6 +29,7 @@ pub const OPTION_NAMES: [&str; OPTIONS] = [
     "itl3",
     "itl4",
     "budget",
+    "catchup",
 ];
 
 impl Options {
@@ -99,13 +100,16 @@ pub struct Answer {
     pub passes: u64,
     pub rows: u64,
     pub end: f64,
+    /// 0, or 1 + the place of the first diode that is behind; None in a stored answer that does not tell it.
+    pub behind: Option<u64>,
     pub buffers: [Vec<f64>; 6],
 }
 
 impl Answer {
     /// The answer of a call that changed nothing.
     pub fn refused(job: &Job, refusal: u64, place: u64) -> Answer {
-        Answer { refusal, place, verdict: 0, dc_verdict: 0, passes: 0, rows: 0, end: 0.0, buffers: job.lent() }
+        let (verdict, dc_verdict, passes, rows, behind) = (0, 0, 0, 0, Some(0));
+        Answer { refusal, place, verdict, dc_verdict, passes, rows, end: 0.0, behind, buffers: job.lent() }
     }
 
     /// A word for tables: the refusal or the verdict.

@@ -4,7 +4,7 @@ use crate::compare::*;
 use crate::form::{file, Form};
 use crate::generate::{self, Sort};
 use crate::job::*;
-use crate::model::{self, WRONG};
+use crate::model::{self, Wrong, WRONG, WRONG_BEHIND};
 use crate::shrink::shrink;
 use crate::sides::{self, MUST_AGREE, OURS, PAIRS};
 use crate::tally::{Progress, Tally};
@@ -67,7 +67,7 @@ impl Apart {
         }
     }
 
-    fn tell(&self, seed: u64) {
+    fn tell(&self, seed: u64, draw: Draw) {
         println!("  of these, other numbers: {}", self.numbers.line());
         let sizes: Vec<String> = LIMITS.iter().zip(&self.sizes).map(|(l, n)| format!("to {:e} {}", l, n)).collect();
         println!(
@@ -88,14 +88,41 @@ impl Apart {
                 "  largest among sound circuits of up to 5 unknowns: {} (job {} of seed {})",
                 w.text, w.place, seed
             );
-            println!("    {}", describe(&generate::job(seed, w.place).0));
+            println!("    {}", describe(&draw(seed, w.place).0));
         }
     }
 }
 
-/// Runs `count` jobs; answers the number that differ where none may.
+/// The job of a seed and a place.
+type Draw = fn(u64, u64) -> (Job, Sort);
+
+/// One of the two lists of random jobs: with the option off, and with it on.
+struct List {
+    name: &'static str,
+    draw: Draw,
+    /// Readings that its jobs could tell apart.
+    wrong: Vec<(Wrong, &'static str)>,
+}
+
+fn off() -> List {
+    // the diode that is behind is told here too, and the option must do nothing
+    let of_option = |w: &Wrong| format!("{:?}", w).starts_with("Catchup") && *w != Wrong::CatchupAlways;
+    let behind = WRONG_BEHIND.iter().filter(|w| !of_option(&w.0) && w.0 != Wrong::WaitingIsFree);
+    List { name: "jobs", draw: generate::job, wrong: WRONG.iter().chain(behind).copied().collect() }
+}
+
+fn on() -> List {
+    let wrong = WRONG_BEHIND.iter().filter(|w| w.0 != Wrong::CatchupAlways).copied().collect();
+    List { name: "waiting jobs", draw: generate::waiting, wrong }
+}
+
+/// Runs `count` jobs with the option off and as many with it on; answers the number that differ where none may.
 pub fn run(seed: u64, count: u64, folder: &str) -> u64 {
-    let mut progress = Progress::new("jobs", count);
+    run_list(&off(), seed, count, folder) + run_list(&on(), seed, count, folder)
+}
+
+fn run_list(list: &List, seed: u64, count: u64, folder: &str) -> u64 {
+    let mut progress = Progress::new(list.name, count);
     let mut outcomes = Tally::default();
     let mut sorts = Tally::default();
     let mut compared = [0u64; 5];
@@ -103,11 +130,13 @@ pub fn run(seed: u64, count: u64, folder: &str) -> u64 {
     let mut domain = 0u64;
     let mut first: [Option<u64>; 5] = [None; 5];
     let mut apart = Apart::default();
-    let mut told = vec![0u64; WRONG.len()];
+    let mut told = vec![0u64; list.wrong.len()];
     let mut sizes = [0u64; 49];
+    let mut behind = Behind::default();
     for place in 0..count {
-        let (job, sort) = generate::job(seed, place);
+        let (job, sort) = (list.draw)(seed, place);
         let outcome = sides::run(&job);
+        behind.add(&job, &outcome);
         outcomes.add(&outcome.answer.outcome());
         sorts.add(&format!("{:?}", sort));
         if outcome.answer.refusal == 0 {
@@ -128,7 +157,7 @@ pub fn run(seed: u64, count: u64, folder: &str) -> u64 {
         }
         // one in twenty also shows which wrong readings it would tell apart
         if place % 20 == 0 {
-            for (i, (wrong, _)) in WRONG.iter().enumerate() {
+            for (i, (wrong, _)) in list.wrong.iter().enumerate() {
                 let other = model::run(&job, &OURS, *wrong);
                 told[i] += !compare(&job, &other, &outcome.answer, ALL).is_empty() as u64;
             }
@@ -137,7 +166,14 @@ pub fn run(seed: u64, count: u64, folder: &str) -> u64 {
         progress.at(place + 1, &format!(", {} differ", bad));
     }
     progress.end();
-    println!("jobs: {} from seed {} in {:.0} s, {} in the domain of demand 2", count, seed, progress.seconds(), domain);
+    println!(
+        "{}: {} from seed {} in {:.0} s, {} in the domain of demand 2",
+        list.name,
+        count,
+        seed,
+        progress.seconds(),
+        domain
+    );
     println!("  outcomes: {}", outcomes.line());
     println!("  sorts: {}", sorts.line());
     let low: u64 = sizes[1..=8].iter().sum();
@@ -148,31 +184,72 @@ pub fn run(seed: u64, count: u64, folder: &str) -> u64 {
         sizes[9..=24].iter().sum::<u64>(),
         high
     );
+    behind.tell();
     for p in 0..5 {
         if compared[p] > 0 {
             println!("  {}: {} compared, {} differ", PAIRS[p], compared[p], differing[p]);
         }
     }
     if compared[4] > 0 {
-        apart.tell(seed);
+        apart.tell(seed, list.draw);
     }
-    let text: Vec<String> = WRONG.iter().zip(&told).map(|((w, _), n)| format!("{:?} {}", w, n)).collect();
+    let text: Vec<String> = list.wrong.iter().zip(&told).map(|((w, _), n)| format!("{:?} {}", w, n)).collect();
     println!("  of {} jobs so many would tell a wrong reading: {}", (count + 19) / 20, text.join(", "));
     for p in 0..MUST_AGREE {
         if let Some(place) = first[p] {
-            report(seed, place, p, folder);
+            report(list, seed, place, p, folder);
         }
     }
     differing[..MUST_AGREE].iter().sum()
 }
 
-/// One job of a seed: its words, its answer, and what differs.
-pub fn show_one(seed: u64, place: u64) -> u64 {
-    let (job, sort) = generate::job(seed, place);
+/// What a list has of diodes that are behind.
+#[derive(Default)]
+struct Behind {
+    /// Jobs in which a pass waited: DC runs, transients; and the passes that did.
+    waited: [u64; 2],
+    passes: u64,
+    waited_to: Tally,
+    /// Runs that name a diode: settled ones, others.
+    named: [u64; 2],
+}
+
+impl Behind {
+    fn add(&mut self, job: &Job, o: &sides::Outcome) {
+        if o.held != 0 {
+            self.waited[job.transient as usize] += 1;
+            self.passes += o.held;
+            self.waited_to.add(&o.answer.outcome());
+        }
+        self.named[(o.answer.verdict != 0) as usize] += (o.answer.behind != Some(0)) as u64;
+    }
+
+    fn tell(&self) {
+        let [settled, others] = self.named;
+        println!("  runs that name a diode: {} settled, {} others", settled, others);
+        let [dc, transient] = self.waited;
+        if dc + transient > 0 {
+            println!(
+                "  held back at least once: {} jobs, {} DC and {} transient, {} passes in all; they end with {}",
+                dc + transient,
+                dc,
+                transient,
+                self.passes,
+                self.waited_to.line()
+            );
+        }
+    }
+}
+
+/// One job of a seed, of either list: its words, its answer, and what differs.
+pub fn show_one(seed: u64, place: u64, waits: bool) -> u64 {
+    let list = if waits { on() } else { off() };
+    let (job, sort) = (list.draw)(seed, place);
     let o = sides::run(&job);
     println!("job {} of seed {} ({:?}): {}", place, seed, sort, describe(&job));
     let a = &o.answer;
     println!("{}, DC verdict {}, passes {}, rows {}, end {:?}", a.outcome(), a.dc_verdict, a.passes, a.rows, a.end);
+    println!("diode behind {:?}, passes that waited {}", a.behind, o.held);
     for (p, pair) in o.pairs.iter().enumerate() {
         for d in pair.iter().flatten().take(20) {
             println!("  {}: {}", PAIRS[p], show(d));
@@ -182,9 +259,9 @@ pub fn show_one(seed: u64, place: u64) -> u64 {
 }
 
 /// Shows the first job of a pair that differs, and the smallest one made from it.
-fn report(seed: u64, place: u64, pair: usize, folder: &str) {
-    let (job, sort) = generate::job(seed, place);
-    println!("\nDIFFERENCE: {}; job {} of seed {} ({:?})", PAIRS[pair], place, seed, sort);
+fn report(list: &List, seed: u64, place: u64, pair: usize, folder: &str) {
+    let (job, sort) = (list.draw)(seed, place);
+    println!("\nDIFFERENCE: {}; job {} of seed {} of {} ({:?})", PAIRS[pair], place, seed, list.name, sort);
     let differences = |j: &Job| sides::run(j).pairs[pair].clone().unwrap_or_default();
     for d in differences(&job).iter().take(8) {
         println!("  {}", show(d));

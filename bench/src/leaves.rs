@@ -1,6 +1,7 @@
 //! The leaves at scale: solve, convergence, pattern, capacitor, diode and sines, each on the
-//! shipped code, the model and the Rust.
+//! shipped code, the model and the Rust; functions, the judge and diodes behind on the shipped code and a second writing.
 
+use crate::behind;
 use crate::compare::same;
 use crate::directed::Build;
 use crate::door;
@@ -23,7 +24,7 @@ struct Trial {
 
 type Draw = fn(&mut Random) -> Trial;
 
-const LEAVES: [(&str, Draw); 8] = [
+const LEAVES: [(&str, Draw); 9] = [
     ("solve", solve),
     ("convergence", convergence),
     ("pattern", pattern),
@@ -32,6 +33,7 @@ const LEAVES: [(&str, Draw); 8] = [
     ("sines", sines),
     ("functions", functions),
     ("judge", judge),
+    ("behind", late),
 ];
 
 fn agree(a: &[f64], b: &[f64]) -> bool {
@@ -431,6 +433,75 @@ fn judge(r: &mut Random) -> Trial {
         input: format!("rows {}, system {:?}, x {:?}, tolerances {:?}", rows, system, x, tolerances),
         answers,
         sort,
+    }
+}
+
+/// Diodes that are behind: memories at the tolerance and next to it, odd options, short vectors and memories, damaged records.
+fn late(r: &mut Random) -> Trial {
+    let mut o = Options::usual();
+    if r.one_in(2) {
+        o.reltol = r.pick(&[0.0, 0.5, 0.1, 0.25, 1.0, -0.5]);
+        o.vntol = r.pick(&[0.0, 0.125, 1e-3, 1.0, -1e-3]);
+    }
+    if r.one_in(8) {
+        o.reltol = r.any();
+        o.vntol = r.any();
+    }
+    o.abstol = r.any();
+    o.catchup = r.next();
+    let nodes = 1 + r.below(6);
+    let wild = r.one_in(4);
+    let vector: Vec<f64> = (0..nodes).map(|_| if wild { r.any() } else { r.round() }).collect();
+    let (mut sheet, mut memory) = (Vec::new(), Vec::new());
+    for _ in 0..r.below(7) {
+        let kind = r.pick(&[4, 4, 4, 4, 1, 8, 9]);
+        let mut e = Element::new(kind, r.below(nodes), r.below(nodes));
+        e.value[0] = r.any();
+        if r.one_in(12) {
+            e.a = r.pick(&[nodes as u16, 48, 65535]);
+        }
+        memory.push(remembered(r, &e, &vector, &o));
+        let mut record = e.bytes();
+        match r.below(24) {
+            0 => record[r.below(RECORD)] ^= 1 << r.below(8),
+            1 => record[r.pick(&[1, 6, 8, 10, 12, 14, 32, 39])] = 1,
+            _ => {}
+        }
+        sheet.extend_from_slice(&record);
+    }
+    let cut = if r.one_in(8) { r.below(50) } else { 0 };
+    sheet.truncate(sheet.len().saturating_sub(cut));
+    let short = |r: &mut Random, list: Vec<f64>| match r.below(10) {
+        0 => list[..list.len().saturating_sub(1)].to_vec(),
+        1 => [list, vec![0.0]].concat(),
+        _ => list,
+    };
+    let (vector, memory) = (short(r, vector), short(r, memory));
+    let a = behind::first(&sheet, &vector, &memory, &o, Wrong::Nothing);
+    let mut answers = vec![("second writing", vec![a as f64])];
+    answers.extend(door::behind(&sheet, &vector, &memory, &o).map(|b| ("shipped", vec![b as f64])));
+    Trial {
+        input: format!(
+            "sheet {:?}, vector {:?}, memory {:?}, RELTOL {:?}, VNTOL {:?}",
+            sheet, vector, memory, o.reltol, o.vntol
+        ),
+        answers,
+        sort: (if a == 0 { "none" } else { "a record named" }).to_string(),
+    }
+}
+
+/// What a record remembers: mostly within its tolerance of the voltage across it, often just so, now and then anything.
+fn remembered(r: &mut Random, e: &Element, vector: &[f64], o: &Options) -> f64 {
+    let number = |at: u16| vector.get(at as usize).copied().unwrap_or(0.0);
+    let v = number(e.a) - number(e.b);
+    let limit = (v.abs() * o.reltol + o.vntol) * r.sign();
+    match r.below(12) {
+        0 => r.any(),
+        1 | 2 => v + limit,
+        3 => f64::from_bits((v + limit).to_bits().wrapping_add(1)),
+        4 => f64::from_bits((v + limit).to_bits().wrapping_sub(1)),
+        5 => v + limit * r.between(0.0, 1.2),
+        _ => v,
     }
 }
 

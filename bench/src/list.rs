@@ -11,6 +11,7 @@ use crate::model::{self, Wrong};
 use crate::oracle::hooked;
 use crate::sides::{self, MUST_AGREE, OURS, PAIRS};
 use crate::tally::Tally;
+use crate::waiting;
 
 /// No job of the list lends more floats than these, buffer by buffer.
 const MOST_LENT: [usize; 6] = [2360, 2360, 2360, 64, 264, 2048];
@@ -35,10 +36,10 @@ fn quota(job: &Job, answer: &Answer) -> (String, u64) {
     (key, most)
 }
 
-/// The oracle's answer: the Rust's own where it has one, else the model's; they must agree.
+/// The oracle's answer: the Rust's own where it has one, else the model's; they must agree. The Rust has none where a pass waits.
 pub fn answer(job: &Job) -> Answer {
-    let answer = model::run(job, &OURS, Wrong::Nothing);
-    if answer.refusal != 0 {
+    let (answer, held) = model::run_held(job, &OURS, Wrong::Nothing);
+    if answer.refusal != 0 || held != 0 {
         return answer;
     }
     let (rust, stopped) = hooked::run(job, &OURS);
@@ -110,6 +111,45 @@ pub fn stored(path: &str, bytes: &[u8]) -> &'static str {
         Ok(_) => "NOT as it was stored",
         Err(_) => "not stored before",
     }
+}
+
+/// How many random jobs of an ending `write_waiting` takes, of those that wait and of the others.
+const WAITING: u64 = 40;
+const NOT_WAITING: u64 = 6;
+
+/// Writes the jobs about diodes that are behind: the directed ones, then random ones with the option on, in form 2.
+pub fn write_waiting(seed: u64, path: &str) -> u64 {
+    let mut list: Vec<(Job, Option<Answer>)> = Vec::new();
+    let mut classes = Tally::default();
+    let mut held_back = 0;
+    let mut take = |mut job: Job, always: bool| {
+        let (first, held) = model::run_held(&job, &OURS, Wrong::Nothing);
+        let key = format!("{}{}", quota(&job, &first).0, if held > 0 { ", waits" } else { "" });
+        tighten(&mut job, &first);
+        let large = job.lengths.iter().zip(MOST_LENT).any(|(l, most)| *l > most);
+        assert!(!(always && large), "a directed job lends too much: {}", describe(&job));
+        let most = if held > 0 { WAITING } else { NOT_WAITING };
+        if always || !large && classes.get(&key) < most {
+            classes.add(&key);
+            held_back += (held > 0) as u64;
+            let a = answer(&job);
+            list.push((job, Some(a)));
+        }
+    };
+    for d in waiting::all() {
+        take(d.job, true);
+    }
+    for place in 0..100_000 {
+        let (job, _) = generate::waiting(seed, place);
+        let unknowns = job.nodes.saturating_add(job.sources);
+        if unknowns <= 5 && job.sheet.len() <= 9 * RECORD || (unknowns <= 12 && place % 40 == 0) {
+            take(job, false);
+        }
+    }
+    let bytes = file(Form::Two, &list);
+    println!("{}: {} jobs, {} bytes, seed {}; {}", path, list.len(), bytes.len(), seed, stored(path, &bytes));
+    println!("  {} of them wait; {}", held_back, classes.line());
+    0
 }
 
 /// Writes the jobs at the end of the budget.

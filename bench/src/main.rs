@@ -1,5 +1,6 @@
 //! The differential bench: the shipped engine against the published Rust and a plain model.
 
+mod behind;
 mod compare;
 mod directed;
 #[cfg_attr(not(archive), path = "no_door.rs")]
@@ -30,6 +31,7 @@ mod spread_rules;
 mod spreads;
 mod spreads_speed;
 mod tally;
+mod waiting;
 
 use form::Form;
 
@@ -50,8 +52,9 @@ fn conclude(differences: u64) -> u64 {
 }
 
 const USAGE: &str = "usage: bench run SEED COUNT FOLDER | directed | show | leaves SEED COUNT | jobs SEED COUNT FOLDER
-    | job SEED PLACE | find READING SEED COUNT | list SEED FILE [FORM] | list-budget FILE | list-spreads SEED FILE
-    | replay FILE | speed | time [ROW [FILE]] | spreads SEED CALLS | spread SEED PLACE | spreads-speed FOLDER FILE";
+    | job SEED PLACE | waiting-job SEED PLACE | find READING SEED COUNT | list SEED FILE [FORM] | list-budget FILE | list-catchup SEED FILE
+    | list-spreads SEED FILE
+    | replay FILE | speed | time [ROW [FILE]] | spreads SEED CALLS | spread SEED PLACE | sound-spread SEED PLACE | spreads-speed FOLDER FILE";
 
 fn main() {
     quiet_panics();
@@ -68,7 +71,8 @@ fn main() {
         "show" => directed::show_all(),
         "leaves" => leaves::run(seed(), count()),
         "jobs" => jobs::run(seed(), count(), text(3, ".")),
-        "job" => jobs::show_one(seed(), number(2, 0)),
+        "job" => jobs::show_one(seed(), number(2, 0), false),
+        "waiting-job" => jobs::show_one(seed(), number(2, 0), true),
         "find" => directed::find(number(1, 0) as usize, number(2, 1), number(3, 100_000)),
         "list" => match number(3, 1) {
             1 => list::write(seed(), text(2, "answers.bin"), Form::One),
@@ -79,13 +83,15 @@ fn main() {
             }
         },
         "list-budget" => list::write_budgets(text(1, "answers3.bin")),
+        "list-catchup" => list::write_waiting(seed(), text(2, "answers4.bin")),
         "list-spreads" => spread_list::write(seed(), text(2, "spreads.bin")),
         "replay" => list::replay(text(1, "answers.bin")),
         "speed" => speed::run(),
         "time" => speed::time(args.get(1).map(|_| number(1, 0) as usize), text(2, "-")),
         "spreads" => conclude(spreads::run(seed(), number(2, 1000))),
         "spreads-speed" => spreads_speed::run(text(1, "-"), text(2, "-")),
-        "spread" => spreads::show_one(seed(), number(2, 0)),
+        "spread" => spreads::show_one(seed(), number(2, 0), false),
+        "sound-spread" => spreads::show_one(seed(), number(2, 0), true),
         _ => {
             eprintln!("{}", USAGE);
             1

@@ -1,9 +1,10 @@
-//! Document 01 written out a second time, plainly: refusals, passes, verdicts, every buffer.
-//! It decides wherever the Rust has no answer, and is compared with the Rust wherever it has.
+//! Document 01 written out a second time, plainly: refusals, passes, verdicts, every buffer; and the option that waits for
+//! diodes, which is ours. It decides wherever the Rust has no answer, and is compared with the Rust wherever it has.
 //!
 //! `Wrong` holds readings that are easy to take and wrong; a model with one of them shows
 //! whether a job would tell it apart.
 
+use crate::behind;
 use crate::job::*;
 use recorder::Functions;
 
@@ -35,6 +36,25 @@ pub enum Wrong {
     MaxBeforeDoubling,
     RowAtZero,
     SumFromRight,
+    // of diodes that are behind, and of the option
+    VectorBefore,
+    AcrossBefore,
+    MemoryBefore,
+    LastDiodeAsked,
+    FirstDiodeAsked,
+    LastBehindNamed,
+    BelowTolerance,
+    NanCaughtUp,
+    ToleranceOfMemory,
+    AbstolForDiodes,
+    CatchupOverError,
+    CatchupInDcOnly,
+    CatchupInTransientOnly,
+    CatchupIfOdd,
+    CatchupAlways,
+    WaitingIsFree,
+    BehindOfDc,
+    BehindOfSettledOnly,
 }
 
 pub const WRONG: &[(Wrong, &str)] = &[
@@ -63,6 +83,28 @@ pub const WRONG: &[(Wrong, &str)] = &[
     (Wrong::MaxBeforeDoubling, "the step is capped before it is doubled"),
     (Wrong::RowAtZero, "a later time of exactly 0 gets a row"),
     (Wrong::SumFromRight, "back substitution sums in falling column order"),
+];
+
+/// Readings of when a diode is behind and of what the option does.
+pub const WRONG_BEHIND: &[(Wrong, &str)] = &[
+    (Wrong::VectorBefore, "the voltage across a diode is that of the vector that the pass began from"),
+    (Wrong::AcrossBefore, "compared with the voltage across it in the vector that the pass began from"),
+    (Wrong::MemoryBefore, "compared with the memory of the pass before"),
+    (Wrong::LastDiodeAsked, "only the last diode is asked"),
+    (Wrong::FirstDiodeAsked, "only the first diode is asked"),
+    (Wrong::LastBehindNamed, "the last diode that is behind is named"),
+    (Wrong::BelowTolerance, "`<` for `<=`"),
+    (Wrong::NanCaughtUp, "with a NaN a diode has caught up"),
+    (Wrong::ToleranceOfMemory, "RELTOL times the memory, not times the voltage"),
+    (Wrong::AbstolForDiodes, "ABSTOL for VNTOL"),
+    (Wrong::CatchupOverError, "with the option an error is a \"no\" too"),
+    (Wrong::CatchupInDcOnly, "the option counts in DC alone"),
+    (Wrong::CatchupInTransientOnly, "the option counts in the transient alone"),
+    (Wrong::CatchupIfOdd, "an even option is off"),
+    (Wrong::CatchupAlways, "the option is on when it is 0"),
+    (Wrong::WaitingIsFree, "a pass that waits does not count against ITL1 and ITL4"),
+    (Wrong::BehindOfDc, "a transient's diode is that of its DC vector"),
+    (Wrong::BehindOfSettledOnly, "no diode is named where the verdict is not 0"),
 ];
 
 pub const MOST_UNKNOWNS: u128 = 48;
@@ -421,6 +463,7 @@ struct Run<'a> {
     wrong: Wrong,
     nodes: usize,
     n: usize,
+    sheet: Vec<u8>,
     elements: Vec<Element>,
     points: Vec<(f64, f64)>,
     units: u64,
@@ -428,7 +471,11 @@ struct Run<'a> {
     system: Matrix,
     vector: Vec<f64>,
     memory: Vec<f64>,
+    /// Vector and memory that the last pass began from.
+    before: (Vec<f64>, Vec<f64>),
     passes: u64,
+    /// Passes that said "no" for a diode that is behind.
+    held: u64,
     rows: Vec<f64>,
     row_count: u64,
     room: u64,
@@ -513,6 +560,7 @@ impl<'a> Run<'a> {
             return Err(24);
         }
         self.units -= 1;
+        self.before = (self.vector.clone(), self.memory.clone());
         let mut m = self.base.clone();
         if self.wrong == Wrong::DependentFirst {
             self.dependent(&mut m);
@@ -531,20 +579,62 @@ impl<'a> Run<'a> {
         Ok(())
     }
 
-    fn state(&self, y: &[f64]) -> State {
-        convergence(&self.vector, y, self.nodes as u64, &self.o, self.wrong)
+    /// The number of the first diode that is behind in the last solved vector.
+    fn behind(&self) -> u64 {
+        let (vector, memory) = (&self.before.0, &self.before.1);
+        let first = |vector: &[f64], memory: &[f64]| behind::first(&self.sheet, vector, memory, &self.o, self.wrong);
+        match self.wrong {
+            Wrong::VectorBefore => first(vector, &self.memory),
+            Wrong::MemoryBefore => first(&self.vector, memory),
+            Wrong::AcrossBefore => {
+                let across = |e: &Element| vector[e.a as usize] - vector[e.b as usize];
+                let across: Vec<f64> = self.elements.iter().map(across).collect();
+                first(&self.vector, &across)
+            }
+            _ => first(&self.vector, &self.memory),
+        }
+    }
+
+    /// Whether the option is on.
+    fn waits(&self, in_step: bool) -> bool {
+        match self.wrong {
+            Wrong::CatchupInDcOnly if in_step => false,
+            Wrong::CatchupInTransientOnly if !in_step => false,
+            Wrong::CatchupIfOdd => self.o.catchup % 2 == 1,
+            Wrong::CatchupAlways => true,
+            _ => self.o.catchup != 0,
+        }
+    }
+
+    /// What the pass says: with the option "no" for "yes" while a diode is behind.
+    fn state(&mut self, y: &[f64], in_step: bool) -> State {
+        let state = convergence(&self.vector, y, self.nodes as u64, &self.o, self.wrong);
+        let asked = state == State::Yes || (state == State::Error && self.wrong == Wrong::CatchupOverError);
+        if asked && self.waits(in_step) && self.behind() != 0 {
+            self.held += 1;
+            return State::No;
+        }
+        state
+    }
+
+    /// What a pass takes from ITL1 or ITL4: 1, also if it waits.
+    fn cost(&self, held_before: u64) -> u64 {
+        !(self.wrong == Wrong::WaitingIsFree && self.held > held_before) as u64
     }
 
     /// The DC verdict; Err where the run cannot go on after it.
     fn dc(&mut self) -> Result<u64, u64> {
         let mut y = vec![0.0; self.n];
-        for _ in 0..self.o.itl1 + 1 {
+        let mut count = 0;
+        while count < self.o.itl1 + 1 {
+            let held = self.held;
             self.pass(0.0, None)?;
-            match self.state(&y) {
+            match self.state(&y, false) {
                 State::Yes => return Ok(0),
                 State::Error => return Ok(21),
                 State::No => y = self.vector.clone(),
             }
+            count += self.cost(held);
         }
         Ok(20)
     }
@@ -567,9 +657,11 @@ impl<'a> Run<'a> {
         let mut cut = false;
         let least = self.o.tstep * self.o.rmin;
         loop {
+            let held = self.held;
             self.pass(now + *step, Some(Storage { accepted, step: *step }))?;
-            count += 1;
-            match self.state(&y) {
+            let state = self.state(&y, true);
+            count += self.cost(held);
+            match state {
                 State::Yes => return Ok(Step::Accepted { cut, count }),
                 State::Error => return Ok(Step::Failed(21)),
                 State::No => {}
@@ -658,10 +750,15 @@ fn either(r: Result<u64, u64>) -> u64 {
 
 /// The whole call.
 pub fn run(job: &Job, f: &Functions, wrong: Wrong) -> Answer {
+    run_held(job, f, wrong).0
+}
+
+/// The whole call, and how many of its passes waited for a diode.
+pub fn run_held(job: &Job, f: &Functions, wrong: Wrong) -> (Answer, u64) {
     let (number, place) = refusal(job);
     let mut answer = Answer::refused(job, number, place);
     if number != 0 {
-        return answer;
+        return (answer, 0);
     }
     let n = (job.nodes + job.sources) as usize;
     let elements = job.elements();
@@ -677,20 +774,24 @@ pub fn run(job: &Job, f: &Functions, wrong: Wrong) -> Answer {
         wrong,
         nodes: job.nodes as usize,
         n,
+        sheet: job.sheet.clone(),
         elements,
         points: job.pattern(),
         units: job.options.budget,
         base: Matrix::zeros(n),
         system: Matrix::zeros(n),
         vector: vec![0.0; n],
+        before: (vec![0.0; n], memory.clone()),
         memory,
         passes: 0,
+        held: 0,
         rows: Vec::new(),
         row_count: 0,
         room: (job.lengths[ROWS] / (n + 1)) as u64,
     };
     run.make_base();
     let dc = run.dc();
+    let of_dc = run.behind();
     answer.verdict = either(dc);
     if job.transient {
         answer.dc_verdict = answer.verdict;
@@ -702,10 +803,15 @@ pub fn run(job: &Job, f: &Functions, wrong: Wrong) -> Answer {
     }
     answer.passes = run.passes;
     answer.rows = run.row_count;
+    answer.behind = Some(match wrong {
+        Wrong::BehindOfDc => of_dc,
+        Wrong::BehindOfSettledOnly if answer.verdict != 0 => 0,
+        _ => run.behind(),
+    });
     let parts =
         [(BASE, &run.base.m), (SYSTEM, &run.system.m), (VECTOR, &run.vector), (MEMORY, &run.memory), (ROWS, &run.rows)];
     for (buffer, part) in parts.iter() {
         answer.buffers[*buffer][..part.len()].copy_from_slice(part);
     }
-    answer
+    (answer, run.held)
 }

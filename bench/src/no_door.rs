@@ -3,7 +3,7 @@
 use crate::functions::STANDING_IN;
 use crate::job::*;
 use crate::model::{self, Wrong};
-use crate::raw::SpreadsAnswer;
+use crate::raw::SoundAnswer;
 use crate::spread_calls::{Call, Report};
 use recorder::Functions;
 
@@ -19,14 +19,13 @@ pub fn run(_: &Job) -> Option<Answer> {
     None
 }
 
-/// Never asked for without an archive.
-pub fn spreads(call: &Call) -> Report {
-    Report::refused(call, 0)
+pub fn spreads(_: &Call) -> Option<Report> {
+    None
 }
 
 /// Never timed without an archive.
-pub fn call_spreads(_: &Call, _: &mut [Vec<f64>; 5], _: &mut [Vec<u64>; 6]) -> SpreadsAnswer {
-    SpreadsAnswer::default()
+pub fn call_spreads(_: &Call, _: &mut [Vec<f64>; 5], _: &mut [Vec<u64>; 8]) -> SoundAnswer {
+    SoundAnswer::default()
 }
 
 pub fn solve(_: usize, _: &mut [f64], _: &mut [f64]) -> Option<u64> {
@@ -34,6 +33,10 @@ pub fn solve(_: usize, _: &mut [f64], _: &mut [f64]) -> Option<u64> {
 }
 
 pub fn convergence(_: &[f64], _: &[f64], _: u64, _: &Options) -> Option<(u64, u64)> {
+    None
+}
+
+pub fn behind(_: &[u8], _: &[f64], _: &[f64], _: &Options) -> Option<u64> {
     None
 }
 

@@ -62,7 +62,8 @@ pub mod timed {
 pub mod hooked {
     use spice_hooked as spice;
     include!("driver.rs");
-    use crate::model::State;
+    use crate::behind;
+    use crate::model::{State, Wrong};
     use recorder::Functions;
 
     fn record(o: &Options, f: &Functions) -> Record {
@@ -104,6 +105,10 @@ pub mod hooked {
             a.buffers[MEMORY][k] = v;
         }
         a.buffers[ROWS][..seen.record.rows.len()].copy_from_slice(&seen.record.rows);
+        // the Rust does not ask, but it has the vector and the memory
+        let behind =
+            behind::first(&job.sheet, &a.buffers[VECTOR][..n], &a.buffers[MEMORY], &job.options, Wrong::Nothing);
+        a.behind = Some(behind);
         (a, seen.stopped)
     }
 

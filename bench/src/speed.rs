@@ -8,9 +8,8 @@ use crate::door;
 use crate::form::{plain, Form};
 use crate::job::*;
 use crate::oracle::{hooked, quiet, timed};
-use crate::raw::SpreadsAnswer;
 use crate::sides::OURS;
-use crate::spread_calls::{Call, Report, VECTORS};
+use crate::spread_calls::{Call, Report, MINUS, VECTORS};
 use crate::spreads_speed;
 use recorder::Record;
 use std::convert::TryInto;
@@ -175,17 +174,20 @@ enum Timed {
     Spreads(Call),
 }
 
-/// The words of a run's answer as a file has it: all its numbers and every buffer but the scratch one.
+/// The words of a run's answer as a file has it: all its numbers and every buffer but the scratch one. The diode that is behind
+/// follows from the buffers and is left out, so that an archive which does not tell it can be held against one that does.
 fn run_words(job: &Job, answer: &Answer) -> Vec<u64> {
+    let answer = Answer { behind: None, ..answer.clone() };
     answer.bytes(job, Form::Two).chunks_exact(8).map(|w| u64::from_le_bytes(w.try_into().unwrap())).collect()
 }
 
-/// The words of a report: its numbers, the vectors and every buffer of words. The other floats are scratch.
+/// The words of a report of `savrunte_spreads`: its numbers, the vectors and every buffer of words that it is lent. The other
+/// floats are scratch.
 fn report_words(report: &Report) -> Vec<u64> {
-    let SpreadsAnswer { refusal, settled, smallest, largest, smallest_at, largest_at } = report.answer;
-    let numbers = [refusal, settled, plain(smallest), plain(largest), smallest_at, largest_at];
+    let a = &report.answer;
+    let numbers = [a.refusal, a.settled, plain(a.smallest), plain(a.largest), a.smallest_at, a.largest_at];
     let vectors = report.floats[VECTORS].iter().map(|x| plain(*x));
-    numbers.iter().copied().chain(vectors).chain(report.words.iter().flatten().copied()).collect()
+    numbers.iter().copied().chain(vectors).chain(report.words[..MINUS + 1].iter().flatten().copied()).collect()
 }
 
 /// All the words of an answer in one, so that two programs can be held against each other.
@@ -306,7 +308,7 @@ mod tests {
         for b in 0..report.floats.len() {
             assert_eq!(shows(&report, &sum, &|r| r.floats[b][0] = 7.5), b == VECTORS);
         }
-        for b in 0..report.words.len() {
+        for b in 0..MINUS + 1 {
             assert!(shows(&report, &sum, &|r| r.words[b][0] += 1));
         }
     }

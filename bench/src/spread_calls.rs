@@ -5,29 +5,36 @@ use crate::generate::{self, Sort};
 use crate::job::{lent, Element, Job, Options, POINT, RECORD, VECTOR};
 use crate::model::{self, Wrong};
 use crate::random::Random;
-use crate::raw::SpreadsAnswer;
+use crate::raw::SoundAnswer;
 use crate::sides::OURS;
 
 pub const MOST_JOBS: usize = 256;
-/// Numbers 0 to 26 are counted.
+/// Numbers 0 to 26 are counted; in a sound call causes 0 to 28.
 pub const NUMBERS: usize = 27;
+pub const CAUSES: usize = 29;
 /// Limbs of each half of an exact sum.
 pub const LIMBS: usize = 66;
 
 /// Floats and words behind each lent buffer, not lent: they must stay.
 const GUARD: usize = 4;
 
-/// The lent floats, then the lent words, in the order of the C door.
+/// The lent floats, then the lent words, in the order of the C door. The numbers of a sound call are causes; the last two are
+/// lent to no other.
 pub const FLOATS: [&str; 5] = ["base", "system", "elimination", "memory", "vectors"];
-pub const WORDS: [&str; 6] = ["numbers", "places", "passes", "counts", "plus", "minus"];
+pub const WORDS: [&str; 8] = ["numbers", "places", "passes", "counts", "plus", "minus", "sound plus", "sound minus"];
+pub const NUMBER: usize = 0;
 pub const MEMORY: usize = 3;
 pub const VECTORS: usize = 4;
 pub const COUNTS: usize = 3;
 pub const PLUS: usize = 4;
 pub const MINUS: usize = 5;
+pub const SOUND_PLUS: usize = 6;
+pub const SOUND_MINUS: usize = 7;
 
 #[derive(Clone)]
 pub struct Call {
+    /// Of `savrunte_sound_spreads`; else of `savrunte_spreads`.
+    pub sound: bool,
     pub jobs: usize,
     pub nodes: u64,
     pub sources: u64,
@@ -35,28 +42,48 @@ pub struct Call {
     pub options: Options,
     pub sheets: Vec<u8>,
     pub points: Vec<u8>,
+    /// The judge's, in a sound call.
+    pub tolerances: Vec<f64>,
     /// Lengths of the lent floats and of the lent words.
     pub floats: [usize; 5],
-    pub words: [usize; 6],
+    pub words: [usize; 8],
 }
 
 /// What came back: the answer, and every lent buffer afterwards.
 #[derive(Clone)]
 pub struct Report {
-    pub answer: SpreadsAnswer,
+    /// Of a call that is no sound one the last five fields stay 0.
+    pub answer: SoundAnswer,
     pub floats: [Vec<f64>; 5],
-    pub words: [Vec<u64>; 6],
+    pub words: [Vec<u64>; 8],
 }
 
 impl Report {
     /// The report of a call that changed nothing.
     pub fn refused(call: &Call, refusal: u64) -> Report {
-        let answer = SpreadsAnswer { refusal, ..SpreadsAnswer::default() };
+        let answer = SoundAnswer { refusal, ..SoundAnswer::default() };
         Report { answer, floats: call.lent_floats(), words: call.lent_words() }
     }
 }
 
 impl Call {
+    /// No job, and nothing lent.
+    pub fn empty() -> Call {
+        Call {
+            sound: false,
+            jobs: 0,
+            nodes: 0,
+            sources: 0,
+            unknown: 0,
+            options: Options::usual(),
+            sheets: Vec::new(),
+            points: Vec::new(),
+            tolerances: Vec::new(),
+            floats: [0; 5],
+            words: [0; 8],
+        }
+    }
+
     pub fn unknowns(&self) -> u128 {
         self.nodes as u128 + self.sources as u128
     }
@@ -67,10 +94,12 @@ impl Call {
     }
 
     /// How long each lent buffer must be.
-    pub fn needed(&self) -> ([usize; 5], [usize; 6]) {
+    pub fn needed(&self) -> ([usize; 5], [usize; 8]) {
         let n = self.unknowns() as usize;
         let (cells, jobs) = (n * (n + 1), self.jobs);
-        ([cells, cells, cells, self.sheet_length() / RECORD, jobs * n], [jobs, jobs, jobs, NUMBERS, LIMBS, LIMBS])
+        let (counts, more) = if self.sound { (CAUSES, LIMBS) } else { (NUMBERS, 0) };
+        let words = [jobs, jobs, jobs, counts, LIMBS, LIMBS, more, more];
+        ([cells, cells, cells, self.sheet_length() / RECORD, jobs * n], words)
     }
 
     /// Lends exactly what the call needs.
@@ -89,12 +118,21 @@ impl Call {
         })
     }
 
-    pub fn lent_words(&self) -> [Vec<u64>; 6] {
+    pub fn lent_words(&self) -> [Vec<u64>; 8] {
         let mut b = 0;
         self.words.map(|length| {
             b += 1;
             (0..length + GUARD).map(|i| 0x5a5a_0000_0000_0000 + (b << 32) + i as u64).collect()
         })
+    }
+
+    /// How many buffers are lent, floats and words.
+    fn buffers(&self) -> usize {
+        if self.sound {
+            FLOATS.len() + WORDS.len()
+        } else {
+            FLOATS.len() + MINUS + 1
+        }
     }
 
     /// The length lent of one buffer, floats first.
@@ -134,19 +172,81 @@ impl Call {
 
 /// The limits from both sides: each buffer as long as it must be and one short, jobs, unknown, N, records and points.
 pub fn directed() -> Vec<Call> {
+    limits(false)
+}
+
+/// The same of a sound call, and its own: tolerances from both sides, and every cause.
+pub fn sound_directed() -> Vec<Call> {
+    let mut calls = limits(true);
+    let (one, n) = (mixed(), 4);
+    let nan = f64::NAN;
+    let lists: [&[f64]; 9] = [
+        &[],
+        &[1e-6; 4],
+        &[1e-6; 3],
+        &[1e-6],
+        &[0.0; 4],
+        &[1e-6, 1e-6, 1e-6, 1e-6, nan],
+        &[1e-6, 1e-6, nan, 1e-6],
+        &[1e-6, 1e-6, 1e-6, -5e-324],
+        &[f64::MAX, f64::MAX, f64::MAX, 5.0, 0.0],
+    ];
+    for tolerances in lists {
+        for (catchup, counts) in [(0, CAUSES), (1, CAUSES), (1 << 63, CAUSES), (0, CAUSES - 1), (0, NUMBERS)] {
+            let mut call = Call { tolerances: tolerances.to_vec(), ..one.clone() };
+            call.options.catchup = catchup;
+            call.words[COUNTS] = counts;
+            calls.push(call);
+        }
+        // 20 and 24 while a diode is behind
+        for (itl1, budget) in [(0, 2000), (50, 1)] {
+            let mut call = Call { tolerances: tolerances.to_vec(), ..one.clone() };
+            call.options.itl1 = itl1;
+            call.options.budget = budget;
+            calls.push(call);
+        }
+    }
+    // 13, 1, 2, 3 and 4 go before 5
+    let faults: [fn(&mut Call); 5] =
+        [|c| c.unknown = 4, |c| c.nodes = 0, |c| c.jobs -= 1, |c| c.points.push(0), |c| c.options.budget = 0];
+    for fault in faults {
+        let mut call = Call { tolerances: vec![0.0; n - 1], ..one.clone() };
+        fault(&mut call);
+        calls.push(call);
+    }
+    calls
+}
+
+/// One job of each cause: sound ones, one with its second diode behind, one refused, one by each verdict that a job can end with
+/// while the others settle, one that the judge is refused for, one that it rejects.
+fn mixed() -> Call {
+    let first = || Build::dc(3, 1).d(0, 1, 1e-12, 27.0);
+    let diode = |volt: f64, i_sat: f64| first().v(1, 0, volt, 0).r(1, 2, 1000.0).d(2, 0, i_sat, 27.0).job();
+    let mut refused = diode(0.5, 1e-12);
+    refused.sheet[80 + 4] = 9;
+    let jobs = [
+        diode(0.5, 1e-12),
+        diode(5.0, 1e-12),
+        refused,
+        diode(0.5, f64::INFINITY),
+        Build::dc(3, 1).c(1, 0, 1.0).r(2, 0, 1.0).i(0, 2, 1.0).d(2, 0, 1e-12, 27.0).job(),
+        first().i(0, 1, 1.0).r(1, 0, 0.0).v(2, 0, 1.0, 0).job(),
+        first().r(1, 0, 1.0).r(2, 0, 1.0).v(0, 0, 5.0, 0).job(),
+        diode(-0.5, 1e-12),
+        diode(0.5, 1e-12),
+    ];
+    let sheets = jobs.iter().flat_map(|j| j.sheet.clone()).collect();
+    let mut call = Call { sound: true, jobs: jobs.len(), nodes: 3, sources: 1, unknown: 2, sheets, ..Call::empty() };
+    call.fit();
+    call
+}
+
+fn limits(sound: bool) -> Vec<Call> {
     let sheet = Build::dc(2, 1).v(1, 0, 1.0, 0).r(1, 0, 1.0).job().sheet;
     let with = |jobs: usize, nodes: u64, unknown: u64, sheet: &[u8], points: usize| {
-        let mut call = Call {
-            jobs,
-            nodes,
-            sources: 1,
-            unknown,
-            options: Options::usual(),
-            sheets: sheet.repeat(jobs),
-            points: vec![0; POINT * points],
-            floats: [0; 5],
-            words: [0; 6],
-        };
+        let points = vec![0; POINT * points];
+        let sheets = sheet.repeat(jobs);
+        let mut call = Call { sound, jobs, nodes, sources: 1, unknown, sheets, points, ..Call::empty() };
         call.fit();
         call
     };
@@ -157,7 +257,7 @@ pub fn directed() -> Vec<Call> {
     calls.extend([0, 47, 48].iter().map(|nodes| with(3, *nodes, 0, &sheet, 0)));
     calls.extend([0, 256, 257].iter().map(|records| with(2, 2, 1, &long[..RECORD * records], 0)));
     calls.extend([1024, 1025].iter().map(|points| with(3, 2, 1, &sheet, *points)));
-    for which in 0..11 {
+    for which in 0..calls[0].buffers() {
         let mut call = with(3, 2, 1, &sheet, 0);
         *call.length(which) -= 1;
         calls.push(call);
@@ -167,7 +267,15 @@ pub fn directed() -> Vec<Call> {
 
 /// The call of a seed and a place; one in six is damaged as a whole.
 pub fn call(seed: u64, place: u64) -> Call {
-    let mut r = Random::new(seed ^ 0x5350_5245_4144_5321, place);
+    drawn(&mut Random::new(seed ^ 0x5350_5245_4144_5321, place), false)
+}
+
+/// The sound call of a seed and a place: likewise, with tolerances of every sort, and mostly circuits in which diodes are behind.
+pub fn sound_call(seed: u64, place: u64) -> Call {
+    drawn(&mut Random::new(seed ^ 0x534f_554e_4443_414c, place), true)
+}
+
+fn drawn(r: &mut Random, sound: bool) -> Call {
     let sort = match r.below(20) {
         0..=7 => Sort::Sound,
         8..=12 => Sort::Round,
@@ -177,40 +285,64 @@ pub fn call(seed: u64, place: u64) -> Call {
         18 => Sort::Short,
         _ => Sort::HotDiodes,
     };
+    let sort = if sound && !r.one_in(3) { Sort::Clamped } else { sort };
     let plain = r.one_in(10);
-    let (job, unknown) = if plain { source(&mut r) } else { circuit(&mut r, sort) };
-    let jobs = count(&mut r, job.nodes + job.sources);
-    let sheets = if plain { levels(&mut r, &job, jobs) } else { sheets(&mut r, &job, jobs) };
-    let mut call = Call {
-        jobs,
-        nodes: job.nodes,
-        sources: job.sources,
-        unknown,
-        options: job.options,
-        sheets,
-        points: job.points,
-        floats: [0; 5],
-        words: [0; 6],
-    };
+    let (job, unknown) = if plain { source(r) } else { circuit(r, sort, sound) };
+    let jobs = count(r, job.nodes + job.sources);
+    let sheets = if plain { levels(r, &job, jobs) } else { sheets(r, &job, jobs) };
+    let (nodes, sources, options, points) = (job.nodes, job.sources, job.options, job.points);
+    let mut call = Call { sound, jobs, nodes, sources, unknown, options, sheets, points, ..Call::empty() };
+    if sound {
+        call.tolerances = tolerances(r, call.unknowns() as usize);
+    }
     call.fit();
     if r.one_in(4) {
-        for l in call.floats.iter_mut().chain(call.words.iter_mut()) {
-            *l += r.below(4);
+        for which in 0..call.buffers() {
+            *call.length(which) += r.below(4);
         }
     }
     if r.one_in(6) {
         for _ in 0..1 + r.below(2) {
-            damage(&mut r, &mut call);
+            damage(r, &mut call);
         }
     }
     call
 }
 
+/// The judge's tolerances: none, loose, tight or none at all, of one size or of any, now and then one that it is refused for, now and
+/// then more than there are rows.
+fn tolerances(r: &mut Random, n: usize) -> Vec<f64> {
+    if r.one_in(4) {
+        return Vec::new();
+    }
+    let one = match r.below(4) {
+        0 => 0.0,
+        1 => r.decades(-19.0, -12.0),
+        _ => r.decades(-12.0, 0.0),
+    };
+    let even = r.one_in(2);
+    let each = |r: &mut Random| if even { one } else { r.decades(-18.0, -2.0) };
+    let mut list: Vec<f64> = (0..n).map(|_| each(r)).collect();
+    if r.one_in(8) {
+        list[r.below(n)] = r.pick(&[f64::NAN, f64::INFINITY, -1.0, -5e-324, -0.0]);
+    }
+    if r.one_in(6) {
+        list.push(r.pick(&[f64::NAN, 0.0, 1.0]));
+    }
+    list
+}
+
 /// A circuit and an unknown of it: mostly one that settles, and there away from zero, so that sums and ties say something.
-fn circuit(r: &mut Random, sort: Sort) -> (Job, u64) {
+fn circuit(r: &mut Random, sort: Sort, sound: bool) -> (Job, u64) {
     loop {
         let mut job = generate::make(r, sort);
         job.transient = false;
+        if sound && !r.one_in(4) {
+            generate::loosen(r, &mut job.options);
+        }
+        if sound && r.one_in(3) {
+            job.options.catchup = generate::on(r);
+        }
         let n = (job.nodes + job.sources) as usize;
         let unknown = r.below(n);
         let run = model::run(&job, &OURS, Wrong::Nothing);
@@ -318,6 +450,14 @@ fn rewire(r: &mut Random, job: &mut Job) {
 
 /// A fault of the whole call: 13 and 1 to 5.
 fn damage(r: &mut Random, call: &mut Call) {
+    if call.sound && r.one_in(4) {
+        // too few tolerances, but some; or too few counts
+        match (r.one_in(3), call.tolerances.len()) {
+            (false, length @ 2..) => call.tolerances.truncate((length - 1).min(1 + r.below(length))),
+            _ => call.words[COUNTS] = CAUSES - 1 - r.below(2),
+        }
+        return;
+    }
     match r.below(9) {
         0 => call.jobs = r.pick(&[0, MOST_JOBS + 1, 1 << 63, usize::MAX, 512]),
         1 => call.unknown = r.pick(&[call.nodes.wrapping_add(call.sources), 48, 1 << 32, u64::MAX]),
@@ -344,7 +484,7 @@ fn damage(r: &mut Random, call: &mut Call) {
             }
         }
         _ => {
-            let which = r.below(11);
+            let which = r.below(call.buffers());
             let short = 1 + r.below(3);
             let l = call.length(which);
             *l = if r.one_in(5) { 0 } else { l.saturating_sub(short) };

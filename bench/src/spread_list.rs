@@ -1,5 +1,6 @@
 //! The fixed list of calls of spreads: each with the report that single runs of the Rust add up to, for a replay without any Rust.
 
+use crate::exact;
 use crate::form::{calls_file, Form};
 use crate::job::*;
 use crate::list;
@@ -9,7 +10,7 @@ use crate::tally::Tally;
 
 /// No call of the list lends more than these, nor has more bytes of sheets or of words that its report holds: the replay has room for so many.
 const MOST_FLOATS: [usize; 5] = [2360, 2360, 2360, 264, 2048];
-const MOST_WORDS: [usize; 6] = [264; 6];
+const MOST_WORDS: [usize; 8] = [264; 8];
 const MOST_BYTES: usize = 60_000;
 
 /// A random call and its report are small, but for one call of 256 jobs.
@@ -30,7 +31,7 @@ fn answered(call: &Call) -> (Report, Vec<String>) {
         return (Report::refused(call, refused), vec![format!("call refused by {}", refused)]);
     }
     let runs = runs(call);
-    let made = report(call, &runs, Slip::Nothing);
+    let made = report(call, &runs, exact::judge, Slip::Nothing);
     let mut kinds: Vec<String> = runs.iter().map(|r| r.outcome()).collect();
     kinds.sort();
     kinds.dedup();

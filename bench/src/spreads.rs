@@ -2,12 +2,13 @@
 
 use crate::compare::{same, show, Difference};
 use crate::door;
+use crate::exact;
 use crate::job::*;
 use crate::model::{self, Wrong};
 use crate::oracle::hooked;
 use crate::sides::OURS;
 use crate::spread_calls::{self, *};
-use crate::spread_rules::{refusal, report, Slip, SLIPS};
+use crate::spread_rules::{refusal, report, Slip, BEHIND, REJECTED, SLIPS, SOUND_SLIPS};
 use crate::tally::{Progress, Tally};
 
 /// What a call is held against: one that is refused against the rules, one that runs against single runs of three sides.
@@ -18,10 +19,11 @@ const SIDES: [&str; 4] = [
     "single runs of the Rust with our functions",
 ];
 
-/// One call: the shipped report, the model's single runs, and what differs from each side.
+/// One call: the shipped report, the model's single runs with how many of the passes waited, and what differs from each side.
 struct Outcome {
     shipped: Report,
     runs: Vec<Answer>,
+    waited: Vec<u64>,
     differences: [Vec<Difference>; 4],
 }
 
@@ -40,6 +42,11 @@ fn compare(call: &Call, shipped: &Report, single: &Report) -> Vec<Difference> {
     word("largest", 0, s.largest.to_bits(), t.largest.to_bits(), true);
     word("smallest_at", 0, s.smallest_at, t.smallest_at, false);
     word("largest_at", 0, s.largest_at, t.largest_at, false);
+    word("sound", 0, s.sound, t.sound, false);
+    word("sound_smallest", 0, s.sound_smallest.to_bits(), t.sound_smallest.to_bits(), true);
+    word("sound_largest", 0, s.sound_largest.to_bits(), t.sound_largest.to_bits(), true);
+    word("sound_smallest_at", 0, s.sound_smallest_at, t.sound_smallest_at, false);
+    word("sound_largest_at", 0, s.sound_largest_at, t.sound_largest_at, false);
     for (b, field) in FLOATS.iter().enumerate() {
         // the first four are scratch: only what lies past the lengths named is fixed, and all of it on a refusal
         let scratch = if t.refusal != 0 || b == VECTORS { 0 } else { call.needed().0[b] };
@@ -55,23 +62,65 @@ fn compare(call: &Call, shipped: &Report, single: &Report) -> Vec<Difference> {
     d
 }
 
-/// The call and its single runs, held against each other.
+/// The shipped judge.
+fn shipped_judge(system: &[f64], vector: &[f64], tolerances: &[f64], rows: usize) -> (u64, u64) {
+    door::judge(system, vector, tolerances, rows).expect("an archive is linked")
+}
+
+/// The call and its single runs, held against each other. Without an archive the model's report stands for the shipped one.
 fn held(call: &Call) -> Outcome {
-    let shipped = door::spreads(call);
     let number = refusal(call);
     if number != 0 {
-        let d = compare(call, &shipped, &Report::refused(call, number));
-        return Outcome { shipped, runs: Vec::new(), differences: [d, Vec::new(), Vec::new(), Vec::new()] };
+        let expected = Report::refused(call, number);
+        let shipped = door::spreads(call).unwrap_or_else(|| expected.clone());
+        let d = compare(call, &shipped, &expected);
+        let differences = [d, Vec::new(), Vec::new(), Vec::new()];
+        return Outcome { shipped, runs: Vec::new(), waited: Vec::new(), differences };
     }
     let jobs: Vec<Job> = (0..call.jobs).map(|k| call.single(k)).collect();
-    let ours: Vec<Answer> = jobs.iter().filter_map(door::run).collect();
-    let runs: Vec<Answer> = jobs.iter().map(|j| model::run(j, &OURS, Wrong::Nothing)).collect();
-    // the Rust has no refusals: those are the model's
-    let rust = |(job, run): (&Job, &Answer)| if run.refusal != 0 { run.clone() } else { hooked::run(job, &OURS).0 };
-    let theirs: Vec<Answer> = jobs.iter().zip(&runs).map(rust).collect();
-    let against = |list: &[Answer]| compare(call, &shipped, &report(call, list, Slip::Nothing));
-    let differences = [Vec::new(), against(&ours), against(&runs), against(&theirs)];
-    Outcome { shipped, runs, differences }
+    let (runs, waited): (Vec<Answer>, Vec<u64>) =
+        jobs.iter().map(|j| model::run_held(j, &OURS, Wrong::Nothing)).unzip();
+    // the Rust has no refusals and never waits: those jobs are the model's
+    let rust = |(job, (run, held)): (&Job, (&Answer, &u64))| match (run.refusal, held) {
+        (0, 0) => hooked::run(job, &OURS).0,
+        _ => run.clone(),
+    };
+    let theirs: Vec<Answer> = jobs.iter().zip(runs.iter().zip(&waited)).map(rust).collect();
+    let of_model = report(call, &runs, exact::judge, Slip::Nothing);
+    let shipped = door::spreads(call).unwrap_or_else(|| of_model.clone());
+    let mut ours = Vec::new();
+    if door::LINKED {
+        let single: Vec<Answer> = jobs.iter().filter_map(door::run).collect();
+        ours = compare(call, &shipped, &report(call, &single, shipped_judge, Slip::Nothing));
+    }
+    let of_rust = report(call, &theirs, exact::judge, Slip::Nothing);
+    let differences = [Vec::new(), ours, compare(call, &shipped, &of_model), compare(call, &shipped, &of_rust)];
+    Outcome { shipped, runs, waited, differences }
+}
+
+/// One of the two calls: its name, its directed and its random calls, and the wrong readings of it.
+struct Kind {
+    name: &'static str,
+    directed: fn() -> Vec<Call>,
+    call: fn(u64, u64) -> Call,
+    slips: Vec<Slip>,
+    /// Those that a directed call must tell.
+    told: &'static [Slip],
+}
+
+fn plain() -> Kind {
+    let (directed, call) = (spread_calls::directed, spread_calls::call);
+    Kind { name: "spreads", directed, call, slips: SLIPS.to_vec(), told: &[] }
+}
+
+fn sound() -> Kind {
+    let (directed, call) = (spread_calls::sound_directed, spread_calls::sound_call);
+    Kind { name: "sound spreads", directed, call, slips: [&SLIPS[..], &SOUND_SLIPS].concat(), told: &SOUND_SLIPS }
+}
+
+/// Whether a call that runs would tell a wrong reading.
+fn tells(call: &Call, runs: &[Answer], single: &Report, slip: Slip) -> bool {
+    !compare(call, &report(call, runs, exact::judge, slip), single).is_empty()
 }
 
 /// What was run, counted.
@@ -81,18 +130,22 @@ struct Counts {
     numbers: Tally,
     jobs: u64,
     answered: u64,
+    /// Jobs of which a pass waited.
+    waited: u64,
     none_settled: u64,
     /// Calls whose smallest or largest stands more than once.
     ties: u64,
+    /// Calls with settled jobs that are not sound, and such calls in which both reports differ in smallest or largest.
+    doubtful: [u64; 2],
     /// Calls that would tell a wrong reading.
-    told: [u64; SLIPS.len()],
+    told: Vec<u64>,
     /// Calls compared and differing.
     compared: [u64; 4],
     differing: [u64; 4],
 }
 
 impl Counts {
-    fn add(&mut self, call: &Call, o: &Outcome) {
+    fn add(&mut self, kind: &Kind, call: &Call, o: &Outcome) {
         let refused = refusal(call);
         for (side, d) in o.differences.iter().enumerate() {
             self.compared[side] += ((side == 0) == (refused != 0)) as u64;
@@ -103,25 +156,37 @@ impl Counts {
             return;
         }
         self.calls.add("run");
-        self.jobs += call.jobs as u64;
-        for run in &o.runs {
-            self.numbers.add(&run.outcome());
-            self.answered += (run.refusal == 0) as u64;
-        }
-        let single = report(call, &o.runs, Slip::Nothing);
+        let single = report(call, &o.runs, exact::judge, Slip::Nothing);
+        self.add_jobs(call, o, &single);
         let answer = &single.answer;
         self.none_settled += (answer.settled == 0) as u64;
         let at = call.unknown as usize;
         let settled = o.runs.iter().filter(|r| r.refusal == 0 && r.verdict == 0).map(|r| r.buffers[VECTOR][at]);
         let often = |x: f64| settled.clone().filter(|v| *v == x).count() > 1;
         self.ties += (answer.settled > 0 && (often(answer.smallest) || often(answer.largest))) as u64;
-        for (i, slip) in SLIPS.iter().enumerate() {
-            let wrong = report(call, &o.runs, *slip);
-            self.told[i] += !compare(call, &wrong, &single).is_empty() as u64;
+        let other = answer.smallest_at != answer.sound_smallest_at || answer.largest_at != answer.sound_largest_at;
+        self.doubtful[0] += (answer.sound < answer.settled) as u64;
+        self.doubtful[1] += (answer.sound < answer.settled && other) as u64;
+        self.told.resize(kind.slips.len(), 0);
+        for (told, slip) in self.told.iter_mut().zip(&kind.slips) {
+            *told += tells(call, &o.runs, &single, *slip) as u64;
         }
     }
 
-    fn tell(&self) {
+    /// The jobs of a call by their numbers.
+    fn add_jobs(&mut self, call: &Call, o: &Outcome, single: &Report) {
+        self.jobs += call.jobs as u64;
+        for (k, (run, held)) in o.runs.iter().zip(&o.waited).enumerate() {
+            match single.words[NUMBER][k] {
+                cause @ (BEHIND | REJECTED | 11) => self.numbers.add(&format!("cause {}", cause)),
+                _ => self.numbers.add(&run.outcome()),
+            }
+            self.answered += (run.refusal == 0 && *held == 0) as u64;
+            self.waited += (*held != 0) as u64;
+        }
+    }
+
+    fn tell(&self, kind: &Kind) {
         println!("  calls: {}", self.calls.line());
         println!(
             "  their jobs: {}, {} of them answered by the Rust; {}",
@@ -130,62 +195,92 @@ impl Counts {
             self.numbers.line()
         );
         println!("  calls without a settled job {}, with a tie {}", self.none_settled, self.ties);
-        let told: Vec<String> = SLIPS.iter().zip(&self.told).map(|(s, n)| format!("{:?} {}", s, n)).collect();
+        if !kind.told.is_empty() {
+            let [doubtful, other] = self.doubtful;
+            println!(
+                "  calls with settled jobs that are not sound {}, of these with another smallest or largest {}; jobs of which a pass waited {}",
+                doubtful, other, self.waited
+            );
+        }
+        let told: Vec<String> = kind.slips.iter().zip(&self.told).map(|(s, n)| format!("{:?} {}", s, n)).collect();
         println!("  so many calls would tell a wrong reading: {}", told.join(", "));
         for (side, name) in SIDES.iter().enumerate() {
             let (compared, differ) = (self.compared[side], self.differing[side]);
-            println!("  one call against {}: {} compared, {} differ", name, compared, differ);
+            // without an archive the model stands for it
+            if door::LINKED || side == 3 {
+                println!("  one call against {}: {} compared, {} differ", name, compared, differ);
+            }
         }
     }
 }
 
-/// Runs `calls` calls; answers how many differ.
+/// Runs `calls` calls of either kind; answers how many differ.
 pub fn run(seed: u64, calls: u64) -> u64 {
     if !door::LINKED {
-        println!("spreads: no archive linked, nothing to compare");
-        return 0;
+        println!("spreads: no archive linked, the model's reports stand for its own");
     }
-    let amiss = directed();
-    let mut progress = Progress::new("spreads", calls);
+    run_kind(&plain(), seed, calls) + run_kind(&sound(), seed, calls)
+}
+
+fn run_kind(kind: &Kind, seed: u64, calls: u64) -> u64 {
+    let amiss = directed(kind);
+    let mut progress = Progress::new(kind.name, calls);
     let mut counts = Counts::default();
     let mut first = None;
     for place in 0..calls {
-        let call = spread_calls::call(seed, place);
+        let call = (kind.call)(seed, place);
         let o = held(&call);
-        counts.add(&call, &o);
+        counts.add(kind, &call, &o);
         if o.differences.iter().any(|d| !d.is_empty()) {
             first = first.or(Some(place));
         }
         progress.at(place + 1, &format!(", {} differ", counts.differing.iter().max().unwrap_or(&0)));
     }
     progress.end();
-    println!("spreads: {} calls from seed {} in {:.0} s", calls, seed, progress.seconds());
-    counts.tell();
+    println!("{}: {} calls from seed {} in {:.0} s", kind.name, calls, seed, progress.seconds());
+    counts.tell(kind);
     if let Some(place) = first {
-        explain(seed, place);
+        explain(kind, seed, place);
     }
     amiss + counts.differing.iter().sum::<u64>()
 }
 
-/// The directed calls; answers how many differ.
-fn directed() -> u64 {
-    let calls = spread_calls::directed();
-    let amiss: Vec<&Call> = calls.iter().filter(|c| held(c).differences.iter().any(|d| !d.is_empty())).collect();
+/// The directed calls; answers how many differ, and how many wrong readings none of them tells.
+fn directed(kind: &Kind) -> u64 {
+    let calls = (kind.directed)();
+    let outcomes: Vec<Outcome> = calls.iter().map(held).collect();
+    let pairs = || calls.iter().zip(&outcomes);
+    let amiss: Vec<&Call> = pairs().filter(|(_, o)| o.differences.iter().any(|d| !d.is_empty())).map(|p| p.0).collect();
     let mut refusals = Tally::default();
     for call in &calls {
         refusals.add(&format!("refusal {}", refusal(call)));
     }
-    println!("spreads: {} directed calls at the limits, {} differ; {}", calls.len(), amiss.len(), refusals.line());
+    let (count, differ) = (calls.len(), amiss.len());
+    println!("{}: {} directed calls at the limits, {} differ; {}", kind.name, count, differ, refusals.line());
     for call in &amiss {
         tell(call);
     }
-    amiss.len() as u64
+    let told = |slip: &&Slip| {
+        let tell = |(call, o): (&Call, &Outcome)| {
+            let runs = || report(call, &o.runs, exact::judge, Slip::Nothing);
+            refusal(call) == 0 && tells(call, &o.runs, &runs(), **slip)
+        };
+        pairs().any(tell)
+    };
+    let untold: Vec<&Slip> = kind.told.iter().filter(|slip| !told(slip)).collect();
+    if !kind.told.is_empty() {
+        println!("  they tell {} of {} wrong readings", kind.told.len() - untold.len(), kind.told.len());
+    }
+    if !untold.is_empty() {
+        println!("  NOT TOLD by a directed call: {:?}", untold);
+    }
+    (amiss.len() + untold.len()) as u64
 }
 
 /// The first call that differs, and what is left of it with as few jobs as may be.
-fn explain(seed: u64, place: u64) {
-    let mut call = spread_calls::call(seed, place);
-    println!("\nDIFFERENCE in call {} of seed {}", place, seed);
+fn explain(kind: &Kind, seed: u64, place: u64) {
+    let mut call = (kind.call)(seed, place);
+    println!("\nDIFFERENCE in call {} of seed {} of {}", place, seed, kind.name);
     tell(&call);
     if refusal(&call) != 0 {
         return;
@@ -207,13 +302,14 @@ fn explain(seed: u64, place: u64) {
 
 fn tell(call: &Call) -> u64 {
     println!(
-        "  jobs {}, nodes {}, sources {}, unknown {}, sheets of {} bytes, points of {} bytes, floats lent {:?}, words lent {:?}",
+        "  jobs {}, nodes {}, sources {}, unknown {}, sheets of {} bytes, points of {} bytes, tolerances {:?}, floats lent {:?}, words lent {:?}",
         call.jobs,
         call.nodes,
         call.sources,
         call.unknown,
         call.sheets.len(),
         call.points.len(),
+        call.tolerances,
         call.floats,
         call.words
     );
@@ -223,6 +319,12 @@ fn tell(call: &Call) -> u64 {
         "  refusal {}, settled {}, smallest {:e} at {}, largest {:e} at {}",
         s.refusal, s.settled, s.smallest, s.smallest_at, s.largest, s.largest_at
     );
+    if call.sound {
+        println!(
+            "  sound {}, smallest {:e} at {}, largest {:e} at {}",
+            s.sound, s.sound_smallest, s.sound_smallest_at, s.sound_largest, s.sound_largest_at
+        );
+    }
     for (side, differences) in o.differences.iter().enumerate() {
         for d in differences.iter().take(8) {
             println!("  against {}, place {}: {}", SIDES[side], d.place, show(d));
@@ -231,8 +333,9 @@ fn tell(call: &Call) -> u64 {
     o.differences.iter().map(|d| d.len() as u64).sum()
 }
 
-/// One call of a seed: its report, and what differs.
-pub fn show_one(seed: u64, place: u64) -> u64 {
-    println!("call {} of seed {}", place, seed);
-    tell(&spread_calls::call(seed, place))
+/// One call of a seed, of either kind: its report, and what differs.
+pub fn show_one(seed: u64, place: u64, of_sound: bool) -> u64 {
+    let kind = if of_sound { sound() } else { plain() };
+    println!("call {} of seed {} of {}", place, seed, kind.name);
+    tell(&(kind.call)(seed, place))
 }

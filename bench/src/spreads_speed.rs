@@ -64,8 +64,7 @@ fn one_call(jobs: &[Job], unknown: usize) -> Call {
         options: job.options,
         sheets: jobs.iter().flat_map(|j| j.sheet.clone()).collect(),
         points: job.points.clone(),
-        floats: [0; 5],
-        words: [0; 6],
+        ..Call::empty()
     };
     call.fit();
     call

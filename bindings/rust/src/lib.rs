@@ -26,18 +26,45 @@
 //! ]);
 //! let mut lent = Lent::new(3, 1, 3);
 //! let answer = dc_operating_point(&sheet, &[], 3, 1, Options::bench(), &mut lent.buffers());
-//! assert_eq!(answer, Dc::Ended { verdict: Verdict::Settled, passes: 2 });
+//! assert_eq!(answer, Dc::Ended { verdict: Verdict::Settled, passes: 2, behind: None });
 //! assert_eq!(lent.vector, [0.0, 4.0, 2.0, -2.0]);
+//! ```
+//!
+//! A diode is *behind* when the voltage v across it in the last solved vector is not within |v| RELTOL + VNTOL of what it remembers,
+//! the voltage that its limiting let through last. A run can settle with a diode behind, at a vector that is no solution for it, as the
+//! Rust engine does. Answers name the first such record; with the option `catchup` a run waits until there is none:
+//!
+//! ```
+//! use savrunte::{dc_operating_point, Dc, Lent, Options, Record, Verdict};
+//!
+//! let sheet = Record::sheet(&[
+//!     Record::V { p: 1, n: 0, value: 5.0, source: 0 },
+//!     Record::R { p: 1, n: 2, value: 1000.0 },
+//!     Record::D { p: 2, n: 0, i_sat: 1e-12, tdegc: 27.0 },
+//! ]);
+//! let run = |catchup| {
+//!     let mut lent = Lent::new(3, 1, 3);
+//!     let options = Options { catchup, ..Options::bench() };
+//!     (dc_operating_point(&sheet, &[], 3, 1, options, &mut lent.buffers()), lent.vector[2])
+//! };
+//! let (answer, volt) = run(0);
+//! assert_eq!(answer, Dc::Ended { verdict: Verdict::Settled, passes: 2, behind: Some(2) });
+//! assert!((volt - 4.99998).abs() < 1e-5);
+//! let (answer, volt) = run(1);
+//! assert_eq!(answer, Dc::Ended { verdict: Verdict::Settled, passes: 7, behind: None });
+//! assert!((volt - 0.7447).abs() < 1e-4);
 //! ```
 
 mod raw;
 mod record;
+mod sound;
 mod spreads;
 mod words;
 
 pub use raw::Options;
 pub use record::{points, Record};
-pub use spreads::{spreads, ExactSum, Extreme, Report, Spread, Spreads, SpreadsBuffers, SpreadsLent};
+pub use sound::{sound_spreads, Cause, Sound, SoundBuffers, SoundLent, SoundReport, SoundSpread};
+pub use spreads::{spreads, ExactSum, Extreme, Outcome, Report, Spread, Spreads, SpreadsBuffers, SpreadsLent, Values};
 pub use words::{Refusal, Verdict};
 
 /// What a run is lent: the buffers of the header's `savrunte_dc`, of any length. Too short a buffer is refused by 5.
@@ -89,14 +116,16 @@ impl Lent {
 pub enum Dc {
     /// Nothing was changed. `place` is the faulty record, counted from 0, for the refusals of a record, else 0.
     Refused { refusal: Refusal, place: usize },
-    Ended { verdict: Verdict, passes: u64 },
+    /// `behind` is the first diode, as a record counted from 0, that is behind in the last solved vector, whatever the verdict.
+    Ended { verdict: Verdict, passes: u64, behind: Option<usize> },
 }
 
 /// How a transient run went.
 #[derive(Clone, Copy, Debug, PartialEq)]
 pub enum Transient {
     Refused { refusal: Refusal, place: usize },
-    Ended { verdict: Verdict, dc_verdict: Verdict, passes: u64, rows: usize, end: f64 },
+    /// `behind` as of [`Dc`]: it speaks of the last vector alone, not of those before it.
+    Ended { verdict: Verdict, dc_verdict: Verdict, passes: u64, rows: usize, end: f64, behind: Option<usize> },
 }
 
 /// What two vectors say of each other. The last place that is not finite (error) or differs by more than its tolerance (no)
@@ -140,7 +169,7 @@ pub fn dc_operating_point(sheet: &[u8], points: &[u8], nodes: usize, sources: us
     };
     match Refusal::of(r.refusal) {
         Some(refusal) => Dc::Refused { refusal, place: r.place as usize },
-        None => Dc::Ended { verdict: Verdict::of(r.verdict), passes: r.passes },
+        None => Dc::Ended { verdict: Verdict::of(r.verdict), passes: r.passes, behind: named(r.behind) },
     }
 }
 
@@ -165,8 +194,14 @@ pub fn transient_analysis(sheet: &[u8], points: &[u8], nodes: usize, sources: us
             passes: r.passes,
             rows: r.rows as usize,
             end: r.end,
+            behind: named(r.behind),
         },
     }
+}
+
+/// A record by its number, which is 1 + its place; 0 is none.
+fn named(number: u64) -> Option<usize> {
+    number.checked_sub(1).map(|place| place as usize)
 }
 
 /// Elimination and back substitution of `rows` rows by `rows` + 1 columns, to the bits of the Rust engine.
@@ -187,6 +222,15 @@ pub fn convergence_check(x: &[f64], y: &[f64], nodes: usize, options: Options) -
         (None, 1) => Convergence::No,
         (None, _) => Convergence::Error,
     }
+}
+
+/// The first diode of a sheet, as a record counted from 0, that is behind in a vector with this memory; RELTOL and VNTOL of the options
+/// count. A number past the end of the vector or the memory is a NaN, and with a NaN a diode is behind. A record that is no diode, or
+/// that a run would refuse by 6 or 7, is never behind.
+pub fn behind(sheet: &[u8], vector: &[f64], memory: &[f64], options: Options) -> Option<usize> {
+    named(unsafe {
+        raw::savrunte_behind(sheet.as_ptr(), sheet.len(), vector.as_ptr(), vector.len(), memory.as_ptr(), memory.len(), options)
+    })
 }
 
 /// The exact judge: accepts when every row's residual, added up without rounding, is within its tolerance.

@@ -26,10 +26,12 @@ pub struct Options {
     pub itl3: u64,
     pub itl4: u64,
     pub budget: u64,
+    /// 0 is off. Anything else is on: then a pass that would settle goes on as if it had not, while a diode is behind.
+    pub catchup: u64,
 }
 
 impl Options {
-    /// The bench's tolerances, the Rust engine's constants, a step of 1 up to time 2, and the whole budget.
+    /// The bench's tolerances, the Rust engine's constants, a step of 1 up to time 2, the whole budget, and no waiting for diodes.
     pub fn bench() -> Options {
         Options {
             reltol: 0.001,
@@ -49,6 +51,7 @@ impl Options {
             itl3: 0,
             itl4: 10,
             budget: 1_000_000,
+            catchup: 0,
         }
     }
 }
@@ -60,6 +63,7 @@ pub struct DcAnswer {
     pub place: u64,
     pub verdict: u64,
     pub passes: u64,
+    pub behind: u64,
 }
 
 #[repr(C)]
@@ -72,6 +76,7 @@ pub struct TransientAnswer {
     pub passes: u64,
     pub rows: u64,
     pub end: f64,
+    pub behind: u64,
 }
 
 #[repr(C)]
@@ -83,6 +88,22 @@ pub struct SpreadsAnswer {
     pub largest: f64,
     pub smallest_at: u64,
     pub largest_at: u64,
+}
+
+#[repr(C)]
+#[derive(Clone, Copy, Default)]
+pub struct SoundAnswer {
+    pub refusal: u64,
+    pub settled: u64,
+    pub smallest: f64,
+    pub largest: f64,
+    pub smallest_at: u64,
+    pub largest_at: u64,
+    pub sound: u64,
+    pub sound_smallest: f64,
+    pub sound_largest: f64,
+    pub sound_smallest_at: u64,
+    pub sound_largest_at: u64,
 }
 
 #[repr(C)]
@@ -147,8 +168,24 @@ extern "C" {
         counts: *mut u64, counts_len: usize, plus: *mut u64, plus_len: usize,
         minus: *mut u64, minus_len: usize,
     ) -> SpreadsAnswer;
+    pub fn savrunte_sound_spreads(
+        sheets: *const u8, sheets_len: usize, points: *const u8, points_len: usize,
+        tolerances: *const f64, tolerances_len: usize,
+        jobs: usize, nodes: usize, sources: usize, unknown: usize, options: Options,
+        base: *mut f64, base_len: usize, system: *mut f64, system_len: usize,
+        elimination: *mut f64, elimination_len: usize, memory: *mut f64, memory_len: usize,
+        vectors: *mut f64, vectors_len: usize, causes: *mut u64, causes_len: usize,
+        places: *mut u64, places_len: usize, passes: *mut u64, passes_len: usize,
+        counts: *mut u64, counts_len: usize, plus: *mut u64, plus_len: usize,
+        minus: *mut u64, minus_len: usize, sound_plus: *mut u64, sound_plus_len: usize,
+        sound_minus: *mut u64, sound_minus_len: usize,
+    ) -> SoundAnswer;
     pub fn savrunte_solve(matrix: *mut f64, matrix_len: usize, vector: *mut f64, vector_len: usize, rows: usize) -> u64;
     pub fn savrunte_convergence(x: *const f64, x_len: usize, y: *const f64, y_len: usize, nodes: usize, options: Options) -> ConvergenceAnswer;
+    pub fn savrunte_behind(
+        sheet: *const u8, sheet_len: usize, vector: *const f64, vector_len: usize,
+        memory: *const f64, memory_len: usize, options: Options,
+    ) -> u64;
     pub fn savrunte_judge(
         system: *const f64, system_len: usize, vector: *const f64, vector_len: usize,
         tolerances: *const f64, tolerances_len: usize, rows: usize,

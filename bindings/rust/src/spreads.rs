@@ -5,7 +5,7 @@ use crate::{raw, Dc, Options, Refusal, Verdict};
 /// Numbers 0 to 26 are counted.
 const NUMBERS: usize = 27;
 /// Limbs in each half of the exact sum.
-const LIMBS: usize = 66;
+pub(crate) const LIMBS: usize = 66;
 
 /// What the call is lent: the buffers of the header's `savrunte_spreads`, of any length. Too short a buffer is refused by 5.
 pub struct SpreadsBuffers<'a> {
@@ -97,10 +97,55 @@ pub struct Report<'a> {
     pub counts: &'a [u64],
     /// The jobs' vectors end to end.
     pub vectors: &'a [f64],
-    numbers: &'a [u64],
-    places: &'a [u64],
-    passes: &'a [u64],
-    unknowns: usize,
+    lists: Lists<'a>,
+}
+
+/// The chosen unknown over some of the jobs.
+#[derive(Clone, Debug, PartialEq)]
+pub struct Values<'a> {
+    /// The jobs that count.
+    pub jobs: u64,
+    /// The earliest on a tie; none where no job counts.
+    pub smallest: Option<Extreme>,
+    pub largest: Option<Extreme>,
+    pub sum: ExactSum<'a>,
+}
+
+impl<'a> Values<'a> {
+    /// Of a count, the smallest and the largest with their jobs, and the two rows of the sum.
+    pub(crate) fn new(jobs: u64, smallest: (f64, u64), largest: (f64, u64), plus: &'a [u64], minus: &'a [u64]) -> Values<'a> {
+        let some = |(value, job): (f64, u64)| if jobs == 0 { None } else { Some(Extreme { value, job: job as usize }) };
+        let sum = ExactSum { plus: &plus[..LIMBS], minus: &minus[..LIMBS] };
+        Values { jobs, smallest: some(smallest), largest: some(largest), sum }
+    }
+
+    /// The exact mean, rounded once; 0.0 where no job counts.
+    pub fn mean(&self) -> f64 {
+        self.sum.over(self.jobs)
+    }
+}
+
+/// What is returned for each job, list by list.
+#[derive(Clone, Copy, Debug, PartialEq)]
+pub(crate) struct Lists<'a> {
+    pub numbers: &'a [u64],
+    pub places: &'a [u64],
+    pub passes: &'a [u64],
+    pub vectors: &'a [f64],
+    pub unknowns: usize,
+}
+
+impl<'a> Lists<'a> {
+    /// Of a call that ran, so that the buffers are at least this long.
+    pub fn of(numbers: &'a [u64], places: &'a [u64], passes: &'a [u64], vectors: &'a [f64], jobs: usize, unknowns: usize) -> Lists<'a> {
+        Lists { numbers: &numbers[..jobs], places: &places[..jobs], passes: &passes[..jobs], vectors: &vectors[..jobs * unknowns], unknowns }
+    }
+
+    /// Number, place, passes and vector of each job.
+    pub fn jobs(self) -> impl Iterator<Item = (u64, u64, u64, &'a [f64])> + 'a {
+        let vectors = self.vectors.chunks_exact(self.unknowns);
+        vectors.enumerate().map(move |(k, vector)| (self.numbers[k], self.places[k], self.passes[k], vector))
+    }
 }
 
 /// A value of the chosen unknown, and the job where it stands.
@@ -110,11 +155,37 @@ pub struct Extreme {
     pub job: usize,
 }
 
+/// How one job went: what [`dc_operating_point`](crate::dc_operating_point) answers for it alone, less the diode that is behind, which
+/// [`sound_spreads`](crate::sound_spreads) tells.
+#[derive(Clone, Copy, Debug, PartialEq, Eq)]
+pub enum Outcome {
+    Refused { refusal: Refusal, place: usize },
+    Ended { verdict: Verdict, passes: u64 },
+}
+
+impl From<Dc> for Outcome {
+    fn from(answer: Dc) -> Outcome {
+        match answer {
+            Dc::Refused { refusal, place } => Outcome::Refused { refusal, place },
+            Dc::Ended { verdict, passes, .. } => Outcome::Ended { verdict, passes },
+        }
+    }
+}
+
+impl Outcome {
+    /// A job's number is its verdict, or its refusal by 6 to 10.
+    pub(crate) fn of(number: u64, place: u64, passes: u64) -> Outcome {
+        match Refusal::of(number) {
+            Some(refusal @ (Refusal::Kind | Refusal::Unused | Refusal::Node | Refusal::Source | Refusal::Range)) => Outcome::Refused { refusal, place: place as usize },
+            _ => Outcome::Ended { verdict: Verdict::of(number), passes },
+        }
+    }
+}
+
 /// One job of the call.
 #[derive(Clone, Copy, Debug, PartialEq)]
 pub struct Spread<'a> {
-    /// What [`dc_operating_point`](crate::dc_operating_point) answers for this job alone.
-    pub answer: Dc,
+    pub answer: Outcome,
     /// The last solved vector; zeros where the job is refused.
     pub vector: &'a [f64],
 }
@@ -122,9 +193,7 @@ pub struct Spread<'a> {
 impl<'a> Report<'a> {
     /// The jobs in the order given.
     pub fn jobs(&self) -> impl Iterator<Item = Spread<'a>> + 'a {
-        let (numbers, places, passes) = (self.numbers, self.places, self.passes);
-        let vectors = self.vectors.chunks_exact(self.unknowns);
-        vectors.enumerate().map(move |(k, vector)| Spread { answer: answer(numbers[k], places[k], passes[k]), vector })
+        self.lists.jobs().map(|(number, place, passes, vector)| Spread { answer: Outcome::of(number, place, passes), vector })
     }
 
     /// How many jobs ended so.
@@ -144,14 +213,6 @@ impl<'a> Report<'a> {
 
     fn count(&self, number: u64) -> u64 {
         self.counts.get(number as usize).copied().unwrap_or(0)
-    }
-}
-
-/// A job's number is its verdict, or its refusal by 6 to 10.
-fn answer(number: u64, place: u64, passes: u64) -> Dc {
-    match Refusal::of(number) {
-        Some(refusal @ (Refusal::Kind | Refusal::Unused | Refusal::Node | Refusal::Source | Refusal::Range)) => Dc::Refused { refusal, place: place as usize },
-        _ => Dc::Ended { verdict: Verdict::of(number), passes },
     }
 }
 
@@ -179,7 +240,7 @@ impl ExactSum<'_> {
 /// Three spreads of a divider, and one whose second record names a node that is not there:
 ///
 /// ```
-/// use savrunte::{spreads, Dc, Options, Record, Refusal, Spreads, SpreadsLent, Verdict};
+/// use savrunte::{spreads, Options, Outcome, Record, Refusal, Spreads, SpreadsLent};
 ///
 /// let divider = |ohm: f64, node: u16| {
 ///     Record::sheet(&[
@@ -202,8 +263,8 @@ impl ExactSum<'_> {
 /// assert_eq!(report.mean(), 8.5 / 3.0);
 /// for job in report.jobs() {
 ///     match job.answer {
-///         Dc::Ended { verdict, passes } => println!("{verdict} after {passes} passes: {:?}", job.vector),
-///         Dc::Refused { refusal, place } => println!("{refusal}, record {place}"),
+///         Outcome::Ended { verdict, passes } => println!("{verdict} after {passes} passes: {:?}", job.vector),
+///         Outcome::Refused { refusal, place } => println!("{refusal}, record {place}"),
 ///     }
 /// }
 /// ```
@@ -228,19 +289,15 @@ pub fn spreads<'a>(sheets: &[u8], points: &[u8], jobs: usize, nodes: usize, sour
     if let Some(refusal) = Refusal::of(r.refusal) {
         return Spreads::Refused(refusal);
     }
-    // the call ran, so the buffers are at least this long
-    let unknowns = nodes + sources;
-    let some = |value, job| if r.settled == 0 { None } else { Some(Extreme { value, job: job as usize }) };
+    let values = Values::new(r.settled, (r.smallest, r.smallest_at), (r.largest, r.largest_at), lent.plus, lent.minus);
+    let lists = Lists::of(lent.numbers, lent.places, lent.passes, lent.vectors, jobs, nodes + sources);
     Spreads::Ran(Report {
-        settled: r.settled,
-        smallest: some(r.smallest, r.smallest_at),
-        largest: some(r.largest, r.largest_at),
-        sum: ExactSum { plus: &lent.plus[..LIMBS], minus: &lent.minus[..LIMBS] },
+        settled: values.jobs,
+        smallest: values.smallest,
+        largest: values.largest,
+        sum: values.sum,
         counts: &lent.counts[..NUMBERS],
-        vectors: &lent.vectors[..jobs * unknowns],
-        numbers: &lent.numbers[..jobs],
-        places: &lent.places[..jobs],
-        passes: &lent.passes[..jobs],
-        unknowns,
+        vectors: lists.vectors,
+        lists,
     })
 }

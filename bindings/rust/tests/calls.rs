@@ -13,7 +13,7 @@ fn dc(records: &[Record], nodes: usize, sources: usize, options: Options) -> (Dc
 }
 
 fn ended(verdict: Verdict, passes: u64) -> Dc {
-    Dc::Ended { verdict, passes }
+    Dc::Ended { verdict, passes, behind: None }
 }
 
 fn case_b() -> [Record; 3] {
@@ -58,12 +58,96 @@ fn a_charging_capacitor() {
     let mut lent = Lent::new(2, 0, 3);
     let mut rows = vec![-7.0; 3 * 4 + 2];
     let answer = transient_analysis(&Record::sheet(&j), &[], 2, 0, Options::bench(), &mut lent.buffers(), &mut rows);
-    assert_eq!(answer, Transient::Ended { verdict: Verdict::Settled, dc_verdict: Verdict::Settled, passes: 8, rows: 4, end: 2.0 });
+    let ended = |verdict, passes, rows| Transient::Ended { verdict, dc_verdict: Verdict::Settled, passes, rows, end: 2.0, behind: None };
+    assert_eq!(answer, ended(Verdict::Settled, 8, 4));
     assert_eq!(rows, [0.0, 0.0, 1.0, 1.0, 0.0, 0.5, 2.0, 0.0, 0.75, 2.0, 0.0, 0.875, -7.0, -7.0]);
 
     let options = Options { budget: 7, ..Options::bench() };
     let answer = transient_analysis(&Record::sheet(&j), &[], 2, 0, options, &mut lent.buffers(), &mut rows);
-    assert_eq!(answer, Transient::Ended { verdict: Verdict::BudgetSpent, dc_verdict: Verdict::Settled, passes: 7, rows: 3, end: 2.0 });
+    assert_eq!(answer, ended(Verdict::BudgetSpent, 7, 3));
+}
+
+/// A diode behind 1 kOhm.
+fn with_diode(volt: f64) -> [Record; 3] {
+    [
+        Record::V { p: 1, n: 0, value: volt, source: 0 },
+        Record::R { p: 1, n: 2, value: 1000.0 },
+        Record::D { p: 2, n: 0, i_sat: 1e-12, tdegc: 27.0 },
+    ]
+}
+
+/// A run that settles with a diode behind says which, and with the option it waits for it.
+#[test]
+fn a_run_can_wait_for_its_diodes() {
+    let (answer, off) = dc(&with_diode(5.0), 3, 1, Options::bench());
+    assert_eq!(answer, Dc::Ended { verdict: Verdict::Settled, passes: 2, behind: Some(2) });
+    assert!((off.vector[2] - 4.99998).abs() < 1e-5);
+    for catchup in [1, 2, 1 << 63, u64::MAX] {
+        let (answer, on) = dc(&with_diode(5.0), 3, 1, Options { catchup, ..Options::bench() });
+        assert_eq!(answer, ended(Verdict::Settled, 7));
+        assert!((on.vector[2] - 0.7447).abs() < 1e-4);
+    }
+    // waiting counts: ITL1 + 1 passes, and the budget
+    for itl1 in [1, 5] {
+        let (answer, _) = dc(&with_diode(5.0), 3, 1, Options { catchup: 1, itl1, ..Options::bench() });
+        assert_eq!(answer, Dc::Ended { verdict: Verdict::PassesUsedUp, passes: itl1 + 1, behind: Some(2) });
+    }
+    let (answer, _) = dc(&with_diode(5.0), 3, 1, Options { catchup: 1, budget: 4, ..Options::bench() });
+    assert_eq!(answer, Dc::Ended { verdict: Verdict::BudgetSpent, passes: 4, behind: Some(2) });
+}
+
+/// In a transient `behind` speaks of the last vector.
+#[test]
+fn a_transient_says_where_its_last_vector_is_behind() {
+    let run = |catchup: u64| {
+        let mut lent = Lent::new(3, 1, 3);
+        let mut rows = vec![0.0; 5 * 8];
+        let options = Options { catchup, ..Options::bench() };
+        let answer = transient_analysis(&Record::sheet(&with_diode(5.0)), &[], 3, 1, options, &mut lent.buffers(), &mut rows);
+        (answer, lent)
+    };
+    for catchup in [0, 1] {
+        let (answer, lent) = run(catchup);
+        let Transient::Ended { verdict: Verdict::Settled, behind: named, .. } = answer else { panic!("{answer:?}") };
+        assert_eq!(named, behind(&Record::sheet(&with_diode(5.0)), &lent.vector, &lent.memory, Options::bench()));
+        assert_eq!(named, None);
+    }
+    assert_ne!(run(0).0, run(1).0);
+}
+
+/// The definition itself: at the tolerance a diode has caught up, one float beyond it is behind, and with a NaN or without a number too.
+#[test]
+fn diodes_that_are_behind() {
+    let o = Options { reltol: 0.5, vntol: 0.25, abstol: f64::NAN, ..Options::bench() };
+    let diode = Record::D { p: 1, n: 2, i_sat: 1e-12, tdegc: 27.0 };
+    let sheet = Record::sheet(&[Record::R { p: 1, n: 0, value: 1.0 }, diode, diode]);
+    let vector = [0.0, 3.0, 1.0]; // 2 V across, so 1.25 V either way
+    let next = |x: f64| f64::from_bits(x.to_bits() + 1);
+    for (first, second, answer) in [
+        (2.0, 2.0, None),
+        (3.25, 0.75, None),
+        (next(3.25), 2.0, Some(1)),
+        (2.0, next(3.25), Some(2)),
+        (next(3.25), next(3.25), Some(1)),
+        (2.0, 0.75 - f64::EPSILON, Some(2)),
+        (f64::NAN, 2.0, Some(1)),
+        (2.0, f64::INFINITY, Some(2)),
+    ] {
+        assert_eq!(behind(&sheet, &vector, &[f64::NAN, first, second], o), answer);
+    }
+    let memory = [0.0, 2.0, 2.0];
+    assert_eq!(behind(&sheet, &vector[..2], &memory, o), Some(1));
+    assert_eq!(behind(&sheet, &vector, &memory[..2], o), Some(2));
+    assert_eq!(behind(&sheet, &[], &[], o), Some(1));
+    assert_eq!(behind(&sheet[..119], &vector, &memory[..2], o), None);
+    assert_eq!(behind(&[], &[], &[], o), None);
+    for (reltol, vntol) in [(f64::NAN, 0.25), (0.5, f64::NAN)] {
+        assert_eq!(behind(&sheet, &vector, &memory, Options { reltol, vntol, ..o }), Some(1));
+    }
+    // a record with a byte that must be zero is no diode
+    let mut dirty = sheet.clone();
+    dirty[40 + 6] = 1;
+    assert_eq!(behind(&dirty, &[], &[], o), Some(2));
 }
 
 /// Every wrong call is refused by its number and place, and leaves every buffer as it was.

@@ -68,7 +68,7 @@ fn every_job_is_a_single_run() {
     for (k, (job, sheet)) in report.jobs().zip(all.chunks(RECORDS * 40)).enumerate() {
         let mut single = Lent::new(NODES, SOURCES, RECORDS);
         let answer = dc_operating_point(sheet, &[], NODES, SOURCES, options, &mut single.buffers());
-        assert_eq!(job.answer, answer);
+        assert_eq!(job.answer, Outcome::from(answer));
         match answer {
             Dc::Refused { refusal, .. } => {
                 counts[refusal.number() as usize] += 1;

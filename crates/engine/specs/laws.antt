@@ -5,3 +5,4 @@ pub mod Promises
 pub mod NoSine
 pub mod Demand
 pub mod Numbers
+pub mod CaughtUp

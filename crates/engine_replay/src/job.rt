@@ -4,6 +4,7 @@ use super::tally;
 use engine::Outcome;
 use jobs::Answer;
 use jobs::Head;
+use jobs::NOT_TOLD;
 use jobs::Rooms;
 
 // The floats that a job can lend.
@@ -25,6 +26,7 @@ pub enum Found {
     Passes,
     Rows,
     End,
+    Behind,
     Base,
     System,
     Elimination,
@@ -43,6 +45,7 @@ pub struct Numbers {
     pub passes: u64,
     pub rows: u64,
     pub end: f64,
+    pub behind: u64,
 }
 
 // Whether nothing after this job can be read.
@@ -68,6 +71,7 @@ pub fn replayed(
     let rooms = run.rooms;
     let n = as_stored(outcome, h.transient);
     tally::ended(counts, h, n);
+    tally::told(counts, a.behind);
     compared(rooms, &rows, n, a, floats)
 }
 
@@ -90,6 +94,7 @@ fn as_stored(r: Outcome, transient: bool) -> Numbers {
             passes: 0,
             rows: 0,
             end: 0.0,
+            behind: 0,
         },
         Outcome::Ended(e) => Numbers {
             refusal: 0,
@@ -99,6 +104,7 @@ fn as_stored(r: Outcome, transient: bool) -> Numbers {
             passes: e.passes,
             rows: e.rows,
             end: e.end,
+            behind: e.behind,
         },
     }
 }
@@ -153,6 +159,9 @@ fn number_found(n: Numbers, a: Answer) -> Found {
     }
     if !jobs::same(n.end, a.end) {
         return Found::End;
+    }
+    if (a.behind != NOT_TOLD) & (n.behind != a.behind) {
+        return Found::Behind;
     }
     Found::Nothing
 }

@@ -29,6 +29,11 @@ const RECORDS_256: u64 = 104;
 
 const RECORDS_257: u64 = 106;
 
+// The answers that tell whether a diode is behind: those where none is, and those where one is.
+const CAUGHT_UP: u64 = 108;
+
+const BEHIND: u64 = 109;
+
 // The limits, as a job's numbers have them.
 const MOST_UNKNOWNS: u64 = limit::UNKNOWNS as u64;
 
@@ -50,6 +55,14 @@ pub fn ended(counts: &mut [u64], h: Head, n: Numbers) {
     limit(counts, unknowns(h.nodes, h.sources), refused);
     limit(counts, budget(h.options.budget), refused);
     limit(counts, records(h.sheet), refused);
+}
+
+// Counts what a stored answer tells of its diodes, if it does.
+pub fn told(counts: &mut [u64], behind: u64) {
+    if behind == jobs::NOT_TOLD {
+        return;
+    }
+    add(counts, if behind == 0 { CAUGHT_UP } else { BEHIND });
 }
 
 // The place of an outcome.
@@ -131,6 +144,7 @@ fn print_field(f: Found) {
         Found::Passes => io::write_all(STDOUT_FILENO, b"passes"),
         Found::Rows => io::write_all(STDOUT_FILENO, b"rows written"),
         Found::End => io::write_all(STDOUT_FILENO, b"end"),
+        Found::Behind => io::write_all(STDOUT_FILENO, b"behind"),
         Found::Base => io::write_all(STDOUT_FILENO, b"base matrix"),
         Found::System => io::write_all(STDOUT_FILENO, b"system matrix"),
         Found::Elimination => io::write_all(STDOUT_FILENO, b"elimination matrix"),
@@ -165,6 +179,16 @@ pub fn report(counts: &[u64]) {
     report_limit(counts, b"budget 1000001", BUDGET_BEYOND);
     report_limit(counts, b"256 records", RECORDS_256);
     report_limit(counts, b"257 records", RECORDS_257);
+    report_told(at(counts, CAUGHT_UP), at(counts, BEHIND));
+}
+
+// Writes how many answers tell of their diodes, and what.
+fn report_told(caught_up: u64, behind: u64) {
+    io::write_all(STDOUT_FILENO, b"told of diodes: ");
+    io::print_decimal(STDOUT_FILENO, caught_up);
+    io::write_all(STDOUT_FILENO, b" with none behind, ");
+    io::print_decimal(STDOUT_FILENO, behind);
+    io::write_all(STDOUT_FILENO, b" with one\n");
 }
 
 // Writes the counts of the outcomes from `from` to `to`.

@@ -5,3 +5,5 @@ pub mod OneVerdict
 pub mod Units
 pub mod Rows
 pub mod NoSine
+pub mod Settles
+pub mod Switched

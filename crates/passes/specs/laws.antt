@@ -2,3 +2,4 @@
 pub mod Sized
 pub mod Attempt
 pub mod NoSine
+pub mod Switched

@@ -19,8 +19,10 @@ ghost use Rattle.models.specs.Vpwl.{patternAt, pointsFrom};
 ghost use Rattle.judge.specs.Judge.{judgeOf};
 ghost use Rattle.solve.specs.Solve.{solveOf, solvedAs};
 ghost use Rattle.spreads.specs.Spreads.{resultsOf, scratchOf, batchOf, spreadsOf, ScratchKept};
+ghost use Rattle.sound.specs.Sound.{resultsOf as soundResultsOf, callOf as soundCallOf, soundOf, ScratchKept as SoundScratchKept};
 ghost use Rattle.savrunte.specs.Runs.{dcAnswer, transientAnswer, dcOf, dcResult, transientOf, transientResult};
 ghost use Rattle.savrunte.specs.Spreads.{spreadsAnswer, doorOf, doorResult};
+ghost use Rattle.savrunte.specs.Sound.{soundAnswer, soundDoorOf, soundDoorResult};
 ghost use Rattle.savrunte.specs.Answers.{sinAnswer, convergenceAnswer, judgeAnswer, companion, diodeAnswer};
 use convergence::Convergence;
 use engine::Outcome;
@@ -28,6 +30,7 @@ use functions::Sine;
 use judge::Judged;
 use models::diode::Linear;
 use options::Options;
+use sound::Soundings;
 use spreads::Spread;
 
 #[repr(C)]
@@ -91,6 +94,21 @@ pub struct SpreadsAnswer {
     pub largest: f64,
     pub smallest_at: u64,
     pub largest_at: u64,
+}
+
+#[repr(C)]
+pub struct SoundAnswer {
+    pub refusal: u64,
+    pub settled: u64,
+    pub smallest: f64,
+    pub largest: f64,
+    pub smallest_at: u64,
+    pub largest_at: u64,
+    pub sound: u64,
+    pub sound_smallest: f64,
+    pub sound_largest: f64,
+    pub sound_smallest_at: u64,
+    pub sound_largest_at: u64,
 }
 
 // The DC operating point of a sheet.
@@ -242,6 +260,70 @@ pub extern "C" fn savrunte_spreads(
         minus,
     );
     spreads_answer(r)
+}
+
+// All spreads in one call, with each job's cause where it is not sound, and a report over the sound ones beside that over the settled.
+#[no_mangle]
+pub extern "C" fn savrunte_sound_spreads(
+    sheets: &[u8],
+    points: &[u8],
+    tolerances: &[f64],
+    jobs: usize,
+    nodes: usize,
+    sources: usize,
+    unknown: usize,
+    options: Options,
+    base: &mut [f64],
+    system: &mut [f64],
+    elimination: &mut [f64],
+    memory: &mut [f64],
+    vectors: &mut [f64],
+    causes: &mut [u64],
+    places: &mut [u64],
+    passes: &mut [u64],
+    counts: &mut [u64],
+    plus: &mut [u64],
+    minus: &mut [u64],
+    sound_plus: &mut [u64],
+    sound_minus: &mut [u64],
+) -> SoundAnswer
+    ensures all { λ r. ⌜
+        soundDoorOf r (soundResultsOf (now (vectors .exit)) (now (causes .exit)) (now (places .exit)) (now (passes .exit)) (now (counts .exit)) (now (plus .exit)) (now (minus .exit)) (now («sound_plus» .exit)) (now («sound_minus» .exit)))
+        ≡ soundDoorResult (soundOf (soundCallOf options jobs nodes sources unknown (now (sheets .entry)) (now (points .entry)) (now (tolerances .entry))
+        (scratchOf (now (base .entry)) (now (system .entry)) (now (elimination .entry)) (now (memory .entry)))
+        (soundResultsOf (now (vectors .entry)) (now (causes .entry)) (now (places .entry)) (now (passes .entry)) (now (counts .entry)) (now (plus .entry)) (now (minus .entry)) (now («sound_plus» .entry)) (now («sound_minus» .entry)))))
+        ⌝ }
+    ensures scratch { λ r. ⌜
+        SoundScratchKept (soundCallOf options jobs nodes sources unknown (now (sheets .entry)) (now (points .entry)) (now (tolerances .entry))
+        (scratchOf (now (base .entry)) (now (system .entry)) (now (elimination .entry)) (now (memory .entry)))
+        (soundResultsOf (now (vectors .entry)) (now (causes .entry)) (now (places .entry)) (now (passes .entry)) (now (counts .entry)) (now (plus .entry)) (now (minus .entry)) (now («sound_plus» .entry)) (now («sound_minus» .entry))))
+        (scratchOf (now (base .exit)) (now (system .exit)) (now (elimination .exit)) (now (memory .exit)))
+        ⌝ }
+{
+    let r = sound::sound_spreads(
+        sheets,
+        points,
+        tolerances,
+        jobs,
+        nodes,
+        sources,
+        unknown,
+        options,
+        base,
+        system,
+        elimination,
+        memory,
+        vectors,
+        causes,
+        places,
+        passes,
+        counts,
+        plus,
+        minus,
+        sound_plus,
+        sound_minus,
+    );
+    sound_answer(r)
 }
 
 #[no_mangle]
@@ -449,5 +531,42 @@ fn spreads_answer(r: Spread) -> SpreadsAnswer
             smallest_at: e.smallest_at,
             largest_at: e.largest_at,
         },
+    }
+}
+
+fn sound_answer(r: Soundings) -> SoundAnswer
+    ensures { λ a. ⌜ a ≡ soundAnswer r ⌝ }
+{
+    match r {
+        Soundings::Refused(k) => SoundAnswer {
+            refusal: k as u64,
+            settled: 0,
+            smallest: 0.0,
+            largest: 0.0,
+            smallest_at: 0,
+            largest_at: 0,
+            sound: 0,
+            sound_smallest: 0.0,
+            sound_largest: 0.0,
+            sound_smallest_at: 0,
+            sound_largest_at: 0,
+        },
+        Soundings::Done(e) => {
+            let s = e.settled;
+            let t = e.sound;
+            SoundAnswer {
+                refusal: 0,
+                settled: s.settled,
+                smallest: s.smallest,
+                largest: s.largest,
+                smallest_at: s.smallest_at,
+                largest_at: s.largest_at,
+                sound: t.settled,
+                sound_smallest: t.smallest,
+                sound_largest: t.largest,
+                sound_smallest_at: t.smallest_at,
+                sound_largest_at: t.largest_at,
+            }
+        }
     }
 }

@@ -1,3 +1,4 @@
 -- What is proved of the control.
 pub mod Control
 pub mod Waited
+pub mod Switched

@@ -11,7 +11,7 @@ use Rattle.options.specs.declared.Options.{Options}
 use Rattle.sheet.specs.Check.{recordsOf}
 use Rattle.behind.specs.declared.Behind.{Behind}
 use Rattle.behind.specs.declared.Behind.the-variants.{Nowhere, At}
-use Rattle.behind.specs.Behind.{behindAt, firstFrom, firstBehind, numberOf, behindNumber}
+use Rattle.behind.specs.Behind.{behindAt, firstFrom, firstIn, firstBehind, numberOf, behindNumber}
 
 -- of the records from i on, n of them, k is the first for which the test holds
 pub record First (test : ℕ → Bool) (i n k : ℕ) : Type 0 where
@@ -63,29 +63,29 @@ module _ (test : ℕ → Bool) where
   is-none i n Nowhere t h = refl
   is-none i n (At a) t h = absurd (true≢false (sym (t .holds) ∙ h a (t .from) (t .place)))
 
-module _ (o : Options) (sheet : List ℕ) (x memory : List Float) where
+module _ (reltol vntol : Float) (sheet : List ℕ) (x memory : List Float) where
   abbrev test : ℕ → Bool
-  test = behindAt o sheet x memory
+  test = behindAt reltol vntol sheet x memory
 
-  told : Told test 0 (recordsOf sheet) (firstBehind o sheet x memory)
-  unfolding firstBehind
+  told : Told test 0 (recordsOf sheet) (firstIn reltol vntol sheet x memory)
+  unfolding firstIn
   told = tells test (recordsOf sheet) 0
 
   -- the answer `At k` says that record k is the first whose diode is behind
-  pub first-at : (k : ℕ) → firstBehind o sheet x memory ≡ At k → First test 0 (recordsOf sheet) k
+  pub first-at : (k : ℕ) → firstIn reltol vntol sheet x memory ≡ At k → First test 0 (recordsOf sheet) k
   first-at k e = rw e at told
 
   -- and of the first it is the answer
-  pub at-first : (k : ℕ) → First test 0 (recordsOf sheet) k → firstBehind o sheet x memory ≡ At k
-  at-first k p = is-first test 0 (recordsOf sheet) k (firstBehind o sheet x memory) told p
+  pub at-first : (k : ℕ) → First test 0 (recordsOf sheet) k → firstIn reltol vntol sheet x memory ≡ At k
+  at-first k p = is-first test 0 (recordsOf sheet) k (firstIn reltol vntol sheet x memory) told p
 
   -- the answer `Nowhere` says that no record's diode is behind
-  pub none-behind : firstBehind o sheet x memory ≡ Nowhere → (m : ℕ) → m < recordsOf sheet → behindAt o sheet x memory m ≡ false
+  pub none-behind : firstIn reltol vntol sheet x memory ≡ Nowhere → (m : ℕ) → m < recordsOf sheet → behindAt reltol vntol sheet x memory m ≡ false
   none-behind e m h = (rw e at told) m (omega arith) (omega arith)
 
   -- and where none is, it is the answer
-  pub behind-none : ((m : ℕ) → m < recordsOf sheet → behindAt o sheet x memory m ≡ false) → firstBehind o sheet x memory ≡ Nowhere
-  behind-none h = is-none test 0 (recordsOf sheet) (firstBehind o sheet x memory) told (λ m l g. h m (omega arith))
+  pub behind-none : ((m : ℕ) → m < recordsOf sheet → behindAt reltol vntol sheet x memory m ≡ false) → firstIn reltol vntol sheet x memory ≡ Nowhere
+  behind-none h = is-none test 0 (recordsOf sheet) (firstIn reltol vntol sheet x memory) told (λ m l g. h m (omega arith))
 
 -- the number 0 is the answer `Nowhere`
 none-of : (b : Behind) → numberOf b ≡ 0 → b ≡ Nowhere

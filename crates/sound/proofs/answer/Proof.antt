@@ -86,6 +86,22 @@ slice-aggregate-run-jobs-4 c = sym (length-take-le _ _ (ok (c .before .before .b
 slice-aggregate-run-jobs-5 : tie.Need-slice-aggregate-run-jobs-5
 slice-aggregate-run-jobs-5 c = sym (c .before .before .before .before .before .before .words .ensures)
 
+-- the runs, from where the own numbers are lent, from where the reports are asked for, and from the end; what was there before the runs
+abbrev Lent : tie.After-numbers3 → tie.After-run-jobs
+Lent c = c .before .before .before .before .before .before .before .before .before .before .before .before .before .before .before .before .before .before .before .before .before .before .before
+
+abbrev Runs : tie.After-sum-both-arg6 → tie.After-run-jobs
+Runs c = Lent (c .before .before .before .before .before .before)
+
+abbrev Ran : tie.After-slice-known26 → tie.After-run-jobs
+Ran c = Runs (c .before .before .before .before .before .before .before .before .before)
+
+abbrev Words : tie.After-run-jobs → tie.After-words
+Words c = c .before .before .before .before .before .before .before .before .before .before
+
+abbrev Passed : tie.After-run-jobs → tie.Else1
+Passed c = c .before .before .before .before .before .before .before .before .before .before .before .before .before
+
 run-jobs-requires : tie.Need-run-jobs-requires
 run-jobs-requires c κs =
     let k = ok (c .before .before .before .before .before .before .before .before .before .before .before .before) .call in (
@@ -95,14 +111,14 @@ run-jobs-requires c κs =
     )
 
 slice-aggregate-sum-both : tie.Need-slice-aggregate-sum-both
-slice-aggregate-sum-both c = sym (c .before .before .before .before .before .before .before .before .before .before .before .before .before .before .before .before .before .before .before .before .before .before .before .run-jobs .kept .1 .1 .1 .1 .1 .1 .1 .1 .1 .1 .1 .1 .1 .0 ∙ c .before .before .before .before .before .before .before .before .before .before .before .before .before .before .before .before .before .before .before .before .before .before .before .before .before .before .before .before .before .before .before .before .before .words .ensures)
+slice-aggregate-sum-both c = sym (Lent c .run-jobs .kept .1 .1 .1 .1 .1 .1 .1 .1 .1 .1 .1 .1 .1 .0 ∙ Words (Lent c) .words .ensures)
 
 sum-both-requires : tie.Need-sum-both-requires
 sum-both-requires c κs =
-    let e = c .before .before .before .before .before .before .before .before .before .before .before .before .before .before .before .before .before .before .before .before .before .before .before .before .before .before .before .before .before .before .before .before .before .before .before .before .before .before .before .before .before .before in
+    let e = Passed (Runs c) in
     let k = ok e in
-    let x = c .before .before .before .before .before .before .before .before .before .before .before .before .before .before .before .before .before .before .before .before .before .before .before .before .before .before .before .before .before .run-jobs in (
-      settled-readable (A (Begin e)) _ _ _ _ _ _ (k .call) (x .ensures .0) (x .ensures .1) (omega (arith, k .call .jobs .few, x .kept .1 .1 .1 .1 .1 .1 .1 .1 .1 .1 .1 .1 .1 .0, c .before .before .before .before .before .before .before .before .before .before .before .before .before .before .before .before .before .before .before .before .before .before .before .before .before .before .before .before .before .before .before .before .before .before .before .before .before .before .before .words .ensures)) (x .kept .1 .1 .1 .1 .1 .1 .1 .1 .1 .1 .1 .1 .0),
+    let x = Runs c .run-jobs in (
+      settled-readable (A (Begin e)) _ _ _ _ _ _ (k .call) (x .ensures .0) (x .ensures .1) (omega (arith, k .call .jobs .few, x .kept .1 .1 .1 .1 .1 .1 .1 .1 .1 .1 .1 .1 .1 .0, Words (Runs c) .words .ensures)) (x .kept .1 .1 .1 .1 .1 .1 .1 .1 .1 .1 .1 .1 .0),
       sound-readable (A (Begin e)) _ _ _ _ _ _ (k .call) (x .ensures .0) (x .ensures .1) (x .kept .1 .1 .1 .1 .1 .1 .1 .1 .1 .1 .1 .1 .1 .1 .0) (x .kept .1 .1 .1 .1 .1 .1 .1 .1 .1 .1 .1 .1 .0),
       k .call .plus-room,
       k .call .minus-room,
@@ -111,28 +127,28 @@ sum-both-requires c κs =
     )
 
 same-length : tie.Need-same-length
-same-length c = same-whole _ _ (c .before .before .before .before .before .before .before .before .before .before .before .before .before .before .before .before .before .before .before .before .before .before .before .before .before .before .before .before .before .before .before .before .before .before .before .before .before .before .run-jobs .last .1 .1 .1 .1 .1 .1 .1 .1 .0) (c .before .before .before .before .before .before .before .before .before .before .before .before .before .before .before .before .before .before .before .before .before .before .before .before .before .before .before .before .before .before .before .before .before .before .before .before .before .before .run-jobs .kept .1 .1 .1 .1 .1 .1 .1 .1 .0) (ok (c .before .before .before .before .before .before .before .before .before .before .before .before .before .before .before .before .before .before .before .before .before .before .before .before .before .before .before .before .before .before .before .before .before .before .before .before .before .before .before .before .before .before .before .before .before .before .before .before .before .before .before) .call .one .base-room)
+same-length c = same-whole _ _ (Ran c .run-jobs .last .1 .1 .1 .1 .1 .1 .1 .1 .0) (Ran c .run-jobs .kept .1 .1 .1 .1 .1 .1 .1 .1 .0) (ok (Passed (Ran c)) .call .one .base-room)
 
 same-length-2 : tie.Need-same-length-2
-same-length-2 c = same-whole _ _ (c .before .before .before .before .before .before .before .before .before .before .before .before .before .before .before .before .before .before .before .before .before .before .before .before .before .before .before .before .before .before .before .before .before .before .before .before .before .before .run-jobs .last .1 .1 .1 .1 .1 .1 .1 .1 .1 .0) (c .before .before .before .before .before .before .before .before .before .before .before .before .before .before .before .before .before .before .before .before .before .before .before .before .before .before .before .before .before .before .before .before .before .before .before .before .before .before .run-jobs .kept .1 .1 .1 .1 .1 .1 .1 .1 .1 .0) (ok (c .before .before .before .before .before .before .before .before .before .before .before .before .before .before .before .before .before .before .before .before .before .before .before .before .before .before .before .before .before .before .before .before .before .before .before .before .before .before .before .before .before .before .before .before .before .before .before .before .before .before .before) .call .one .system-room)
+same-length-2 c = same-whole _ _ (Ran c .run-jobs .last .1 .1 .1 .1 .1 .1 .1 .1 .1 .0) (Ran c .run-jobs .kept .1 .1 .1 .1 .1 .1 .1 .1 .1 .0) (ok (Passed (Ran c)) .call .one .system-room)
 
 same-length-3 : tie.Need-same-length-3
-same-length-3 c = same-whole _ _ (c .before .before .before .before .before .before .before .before .before .before .before .before .before .before .before .before .before .before .before .before .before .before .before .before .before .before .before .before .before .before .before .before .before .before .before .before .before .before .run-jobs .last .1 .1 .1 .1 .1 .1 .1 .1 .1 .1 .0) (c .before .before .before .before .before .before .before .before .before .before .before .before .before .before .before .before .before .before .before .before .before .before .before .before .before .before .before .before .before .before .before .before .before .before .before .before .before .before .run-jobs .kept .1 .1 .1 .1 .1 .1 .1 .1 .1 .1 .0) (ok (c .before .before .before .before .before .before .before .before .before .before .before .before .before .before .before .before .before .before .before .before .before .before .before .before .before .before .before .before .before .before .before .before .before .before .before .before .before .before .before .before .before .before .before .before .before .before .before .before .before .before .before) .call .one .elimination-room)
+same-length-3 c = same-whole _ _ (Ran c .run-jobs .last .1 .1 .1 .1 .1 .1 .1 .1 .1 .1 .0) (Ran c .run-jobs .kept .1 .1 .1 .1 .1 .1 .1 .1 .1 .1 .0) (ok (Passed (Ran c)) .call .one .elimination-room)
 
 same-length-4 : tie.Need-same-length-4
-same-length-4 c = same-whole _ _ (c .before .before .before .before .before .before .before .before .before .before .before .before .before .before .before .before .before .before .before .before .before .before .before .before .before .before .before .before .before .before .before .before .before .before .before .before .before .before .run-jobs .last .1 .1 .1 .1 .1 .1 .1 .1 .1 .1 .1 .0) (c .before .before .before .before .before .before .before .before .before .before .before .before .before .before .before .before .before .before .before .before .before .before .before .before .before .before .before .before .before .before .before .before .before .before .before .before .before .before .run-jobs .kept .1 .1 .1 .1 .1 .1 .1 .1 .1 .1 .1 .0) (ok (c .before .before .before .before .before .before .before .before .before .before .before .before .before .before .before .before .before .before .before .before .before .before .before .before .before .before .before .before .before .before .before .before .before .before .before .before .before .before .before .before .before .before .before .before .before .before .before .before .before .before .before) .call .one .memory-room)
+same-length-4 c = same-whole _ _ (Ran c .run-jobs .last .1 .1 .1 .1 .1 .1 .1 .1 .1 .1 .1 .0) (Ran c .run-jobs .kept .1 .1 .1 .1 .1 .1 .1 .1 .1 .1 .1 .0) (ok (Passed (Ran c)) .call .one .memory-room)
 
 same-length-5 : tie.Need-same-length-5
-same-length-5 c = c .before .before .before .before .before .before .before .before .before .before .before .before .before .before .before .before .before .before .before .before .before .before .before .before .before .before .before .before .before .before .before .before .before .before .before .before .before .before .run-jobs .kept .1 .1 .1 .1 .1 .1 .1 .1 .1 .1 .1 .1 .0
+same-length-5 c = Ran c .run-jobs .kept .1 .1 .1 .1 .1 .1 .1 .1 .1 .1 .1 .1 .0
 
 same-length-6 : tie.Need-same-length-6
-same-length-6 c = c .before .before .before .before .before .before .before .before .before .before .before .before .before .before .before .before .before .before .before .before .before .before .before .before .before .before .before .before .before .before .before .before .before .before .before .before .before .before .run-jobs .kept .1 .1 .1 .1 .1 .1 .1 .1 .1 .1 .1 .1 .1 .1 .0
+same-length-6 c = Ran c .run-jobs .kept .1 .1 .1 .1 .1 .1 .1 .1 .1 .1 .1 .1 .1 .1 .0
 
 same-length-7 : tie.Need-same-length-7
-same-length-7 c = c .before .before .before .before .before .before .before .before .before .before .before .before .before .before .before .before .before .before .before .before .before .before .before .before .before .before .before .before .before .before .before .before .before .before .before .before .before .before .run-jobs .kept .1 .1 .1 .1 .1 .1 .1 .1 .1 .1 .1 .1 .1 .1 .1 .0
+same-length-7 c = Ran c .run-jobs .kept .1 .1 .1 .1 .1 .1 .1 .1 .1 .1 .1 .1 .1 .1 .1 .0
 
 same-length-8 : tie.Need-same-length-8
-same-length-8 c = c .before .before .before .before .before .before .before .before .before .before .before .before .before .before .before .before .before .before .before .before .before .before .before .before .before .before .before .before .before .before .before .before .before .before .before .before .before .before .run-jobs .kept .1 .1 .1 .1 .1 .1 .1 .1 .1 .1 .1 .1 .1 .1 .1 .1 .0
+same-length-8 c = Ran c .run-jobs .kept .1 .1 .1 .1 .1 .1 .1 .1 .1 .1 .1 .1 .1 .1 .1 .1 .0
 
 same-length-9 : tie.Need-same-length-9
 same-length-9 c = c .before .before .before .before .before .before .before .before .before .before .before .before .before .before .before .before .before .before .count-to .kept .1 .1 .1 .0
@@ -151,15 +167,16 @@ same-length-13 c = c .before .before .before .before .before .before .before .be
 
 returns-2 : tie.Need-returns-2
 returns-2 c =
-    let e = c .before .before .before .before .before .before .before .before .before .before .before .before .before .before .before .before .before .before .before .before .before .before .before .before .before .before .before .before .before .before .before .before .before .before .before .before .before .before .before .before .before .before .before .before .before .before .before .before .before .before .before in
+    let e = Passed (Ran c) in
     let s = Begin e in
     let a = s .args in
     let k = ok e in
-    let x = c .before .before .before .before .before .before .before .before .before .before .before .before .before .before .before .before .before .before .before .before .before .before .before .before .before .before .before .before .before .before .before .before .before .before .before .before .before .before .run-jobs in
+    let x = Ran c .run-jobs in
     let n = matrixCells (a .z .nodes + a .z .sources) in
     let r = bytes (lengths (A s)) / recordBytes in (
       whole (A s) _ _ _ _ _ _ (k .call) (x .ensures .0) (x .ensures .1) _ _ _ _ _ _
-          (c .before .before .before .before .before .before .before .before .before .before .before .before .before .before .before .before .before .before .count-to .ensures ∙ kinds-made _ _ _ _ (omega (arith, k .call .number-room, x .kept .1 .1 .1 .1 .1 .1 .1 .1 .1 .1 .1 .1 .1 .1 .0)) (k .count-room))
+          (c .before .before .before .before .before .before .before .before .before .before .before .before .before .before .before .before .before .before .count-to .ensures
+          ∙ kinds-made _ _ _ _ (omega (arith, k .call .number-room, x .kept .1 .1 .1 .1 .1 .1 .1 .1 .1 .1 .1 .1 .1 .1 .0)) (k .count-room))
           (c .before .before .before .before .before .before .before .before .sum-both .ensures)
           ∙ sym (call-done (A s) (none e)),
       record {

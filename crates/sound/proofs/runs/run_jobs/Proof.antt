@@ -37,42 +37,49 @@ run-job-requires c κs =
       l .inv .sized,
     )
 
+-- from the end of a turn back to its beginning, and to the call's
+abbrev Head : tie.After-slice-known14 Inv-loop μ-loop → tie.In-loop Inv-loop μ-loop
+Head c = c .before .before .before .before .before .before .before .before .before .before .before .before .before .before .before .before
+
+abbrev Begin : tie.In-loop Inv-loop μ-loop → tie.Start Inv-loop μ-loop
+Begin c = c .before .before .before .before .before .before .before .before .before .before .before .before .before .before
+
 mul-numbers : tie.Need-mul-numbers Inv-loop μ-loop
-mul-numbers c = omega (arith, c .before .before .before .before .before .before .before .before .before .before .before .before .before .before .before .before .loop-test .taken, c .before .before .before .before .before .before .before .before .before .before .before .before .before .before .before .before .before .before .before .before .before .before .before .before .before .before .before .before .before .before .pre .0 .few)
+mul-numbers c = omega (arith, Head c .loop-test .taken, Begin (Head c) .pre .0 .few)
 
 slice-write-numbers : tie.Need-slice-write-numbers Inv-loop μ-loop
-slice-write-numbers c = omega (arith, c .before .before .before .before .before .before .before .before .before .before .before .before .before .before .before .before .loop-test .taken, c .before .before .before .before .before .before .before .before .before .before .before .before .before .before .before .before .before .before .before .before .before .before .before .before .before .before .before .before .before .before .pre .1, c .before .before .before .before .before .before .before .before .before .before .before .before .before .before .before .before .before .loop .inv .number-length)
+slice-write-numbers c = omega (arith, Head c .loop-test .taken, Begin (Head c) .pre .1, Head c .before .loop .inv .number-length)
 
 mul-causes : tie.Need-mul-causes Inv-loop μ-loop
-mul-causes c = omega (arith, c .before .before .before .before .before .before .before .before .before .before .before .before .before .before .before .before .loop-test .taken, c .before .before .before .before .before .before .before .before .before .before .before .before .before .before .before .before .before .before .before .before .before .before .before .before .before .before .before .before .before .before .pre .0 .few)
+mul-causes c = omega (arith, Head c .loop-test .taken, Begin (Head c) .pre .0 .few)
 
 slice-write-causes : tie.Need-slice-write-causes Inv-loop μ-loop
-slice-write-causes c = omega (arith, c .before .before .before .before .before .before .before .before .before .before .before .before .before .before .before .before .loop-test .taken, c .before .before .before .before .before .before .before .before .before .before .before .before .before .before .before .before .before .before .before .before .before .before .before .before .before .before .before .before .before .before .pre .0 .number-room, c .before .before .before .before .before .before .before .before .before .before .before .before .before .before .before .before .before .loop .inv .cause-length)
+slice-write-causes c = omega (arith, Head c .loop-test .taken, Begin (Head c) .pre .0 .number-room, Head c .before .loop .inv .cause-length)
 
 mul-places : tie.Need-mul-places Inv-loop μ-loop
-mul-places c = omega (arith, c .before .before .before .before .before .before .before .before .before .before .before .before .before .before .before .before .loop-test .taken, c .before .before .before .before .before .before .before .before .before .before .before .before .before .before .before .before .before .before .before .before .before .before .before .before .before .before .before .before .before .before .pre .0 .few)
+mul-places c = omega (arith, Head c .loop-test .taken, Begin (Head c) .pre .0 .few)
 
 slice-write-places : tie.Need-slice-write-places Inv-loop μ-loop
-slice-write-places c = omega (arith, c .before .before .before .before .before .before .before .before .before .before .before .before .before .before .before .before .loop-test .taken, c .before .before .before .before .before .before .before .before .before .before .before .before .before .before .before .before .before .before .before .before .before .before .before .before .before .before .before .before .before .before .pre .0 .place-room, c .before .before .before .before .before .before .before .before .before .before .before .before .before .before .before .before .before .loop .inv .place-length)
+slice-write-places c = omega (arith, Head c .loop-test .taken, Begin (Head c) .pre .0 .place-room, Head c .before .loop .inv .place-length)
 
 mul-passes : tie.Need-mul-passes Inv-loop μ-loop
-mul-passes c = omega (arith, c .before .before .before .before .before .before .before .before .before .before .before .before .before .before .before .before .loop-test .taken, c .before .before .before .before .before .before .before .before .before .before .before .before .before .before .before .before .before .before .before .before .before .before .before .before .before .before .before .before .before .before .pre .0 .few)
+mul-passes c = omega (arith, Head c .loop-test .taken, Begin (Head c) .pre .0 .few)
 
 slice-write-passes : tie.Need-slice-write-passes Inv-loop μ-loop
-slice-write-passes c = omega (arith, c .before .before .before .before .before .before .before .before .before .before .before .before .before .before .before .before .loop-test .taken, c .before .before .before .before .before .before .before .before .before .before .before .before .before .before .before .before .before .before .before .before .before .before .before .before .before .before .before .before .before .before .pre .0 .pass-room, c .before .before .before .before .before .before .before .before .before .before .before .before .before .before .before .before .before .loop .inv .pass-length)
+slice-write-passes c = omega (arith, Head c .loop-test .taken, Begin (Head c) .pre .0 .pass-room, Head c .before .loop .inv .pass-length)
 
 add-job : tie.Need-add-job Inv-loop μ-loop
-add-job c = omega (arith, c .before .before .before .before .before .before .before .before .before .before .before .before .before .before .before .before .loop-test .taken, c .before .before .before .before .before .before .before .before .before .before .before .before .before .before .before .before .before .before .before .before .before .before .before .before .before .before .before .before .before .before .pre .0 .few)
+add-job c = omega (arith, Head c .loop-test .taken, Begin (Head c) .pre .0 .few)
 
 loop-less : tie.Need-loop-less Inv-loop μ-loop
-loop-less c = omega (arith, c .before .before .before .before .before .before .before .before .before .before .before .before .before .before .before .before .loop-test .taken)
+loop-less c = omega (arith, Head c .loop-test .taken)
 
 loop-again : tie.Need-loop-again Inv-loop μ-loop
 loop-again c =
-    let l = c .before .before .before .before .before .before .before .before .before .before .before .before .before .before .before .before .before .loop in
-    let s = c .before .before .before .before .before .before .before .before .before .before .before .before .before .before .before .before .before .before .before .before .before .before .before .before .before .before .before .before .before .before in
+    let l = Head c .before .loop in
+    let s = Begin (Head c) in
     let k = c .before .before .before .before .before .before .before .before .before .before .run-job in
-    turned _ _ _ _ _ _ _ _ _ _ _ _ _ _ _ _ _ _ _ _ _ (l .job) (l .vectors) _ (l .numbers) (l .causes) (l .places) (l .passes) _ (l .inv) (c .before .before .before .before .before .before .before .before .before .before .before .before .before .before .before .before .loop-test .taken) (s .pre .0) (s .pre .1)
+    turned _ _ _ _ _ _ _ _ _ _ _ _ _ _ _ _ _ _ _ _ _ (l .job) (l .vectors) _ (l .numbers) (l .causes) (l .places) (l .passes) _ (l .inv) (Head c .loop-test .taken) (s .pre .0) (s .pre .1)
     (k .kept .1 .1 .1 .1 .1 .1 .1 .1 .0) (k .kept .1 .1 .1 .1 .1 .1 .1 .1 .1 .0) (k .kept .1 .1 .1 .1 .1 .1 .1 .1 .1 .1 .0) (k .kept .1 .1 .1 .1 .1 .1 .1 .1 .1 .1 .1 .0) (k .kept .1 .1 .1 .1 .1 .1 .1 .1 .1 .1 .1 .1 .0) (k .ensures)
 
 returns : tie.Need-returns Inv-loop μ-loop
