@@ -8,7 +8,9 @@ use Rattle.files.proofs.volts.across_in.Statement.{statement}
 use Rattle.files.proofs.volts.across_in.Tie as tie
 
 returns : tie.Need-returns
-returns c = sym (quiet-across _ _ (other-kind 4 4 (0 ∷ 1 ∷ 2 ∷ 4 ∷ 5 ∷ 6 ∷ 7 ∷ 8 ∷ 9 ∷ []) _ (c .match .keys2) refl))
+returns c =
+    let a = c .before .before .args in
+    sym (quiet-across (a .vector .now) (a .e) (other-kind 4 4 (0 ∷ 1 ∷ 2 ∷ 4 ∷ 5 ∷ 6 ∷ 7 ∷ 8 ∷ 9 ∷ []) (a .e) (c .match .keys2) refl))
 
 returns-2 : tie.Need-returns-2
 returns-2 c = rw (c .before .before .before .before .e .given .1) (c .across .ensures)
