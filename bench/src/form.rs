@@ -2,7 +2,7 @@
 //! so that later words can follow: one that is not there counts as 0.
 
 use crate::job::*;
-use crate::spread_calls::{Call, Report, MEMORY as CALL_MEMORY, MINUS, VECTORS};
+use crate::spread_calls::{Call, Report, MEMORY as CALL_MEMORY, MINUS, SOUND_MINUS, SOUND_PLUS, VECTORS};
 use std::convert::TryInto;
 
 #[derive(Clone, Copy, Debug, PartialEq)]
@@ -35,6 +35,7 @@ const JOBS: [&[u8; 8]; 2] = [b"SAVJOBS1", b"SAVJOBS2"];
 const ANSWERS: [&[u8; 8]; 2] = [b"SAVANSW1", b"SAVANSW2"];
 const SPREADS: [&[u8; 8]; 2] = [b"SAVSPRD1", b"SAVSPRD2"];
 const CALLS: [&[u8; 8]; 2] = [b"SAVCALL1", b"SAVCALL2"];
+const SOUND: &[u8; 8] = b"SAVSOUN2";
 
 /// The form that a file's first word names, out of the two magics.
 fn form_of(b: &[u8], magics: [&[u8; 8]; 2]) -> Option<Form> {
@@ -246,25 +247,71 @@ impl Call {
     }
 }
 
-impl Report {
-    /// The report's bytes: size first, what the call lent, the answer's numbers, then how much of each buffer is scratch or
-    /// written, and what is written. A refused call writes nothing.
-    pub fn bytes(&self, call: &Call, form: Form) -> Vec<u8> {
-        let a = &self.answer;
-        let (floats, words) = if a.refusal != 0 { ([0; 5], [0; 8]) } else { call.needed() };
-        // the last two are a sound call's
-        let words = &words[..MINUS + 1];
+/// A report's numbers and buffers, as a file has them: of all jobs, and of a sound call a second time of the sound ones alone.
+struct Told<'a> {
+    /// Floats and words lent, and floats and words that the call needs.
+    lent: ([usize; 5], [usize; 6]),
+    needed: ([usize; 5], [usize; 6]),
+    /// Jobs that count, smallest and largest, and where they stand.
+    jobs: u64,
+    values: [f64; 2],
+    places: [u64; 2],
+    vectors: &'a [f64],
+    words: [&'a [u64]; 6],
+}
+
+impl Told<'_> {
+    /// Size first, what the call lent, the answer's numbers, then how much of each buffer is scratch or written, and what is
+    /// written. A refused call writes nothing.
+    fn bytes(&self, refusal: u64, form: Form) -> Vec<u8> {
+        let (floats, words) = if refusal != 0 { ([0; 5], [0; 6]) } else { self.needed };
         let mut w: Vec<u64> = vec![0];
-        w.extend(call.floats.iter().chain(&call.words[..MINUS + 1]).map(|l| *l as u64));
-        w.extend([a.refusal, a.settled, plain(a.smallest), plain(a.largest), a.smallest_at, a.largest_at]);
+        w.extend(self.lent.0.iter().chain(&self.lent.1).map(|l| *l as u64));
+        w.extend([refusal, self.jobs, plain(self.values[0]), plain(self.values[1]), self.places[0], self.places[1]]);
         // the three matrices are scratch alike
-        w.extend([floats[0], floats[CALL_MEMORY], floats[VECTORS]].iter().chain(words).map(|l| *l as u64));
+        w.extend([floats[0], floats[CALL_MEMORY], floats[VECTORS]].iter().chain(&words).map(|l| *l as u64));
         let mut out = laid(form, w);
-        out.extend(self.floats[VECTORS][..floats[VECTORS]].iter().flat_map(|x| plain(*x).to_le_bytes()));
-        for (length, buffer) in words.iter().zip(&self.words) {
+        out.extend(self.vectors[..floats[VECTORS]].iter().flat_map(|x| plain(*x).to_le_bytes()));
+        for (length, buffer) in words.iter().zip(self.words) {
             out.extend(buffer[..*length].iter().flat_map(|x| x.to_le_bytes()));
         }
         sized(out)
+    }
+}
+
+impl Report {
+    /// The report's bytes; of a sound call with causes for numbers.
+    pub fn bytes(&self, call: &Call, form: Form) -> Vec<u8> {
+        let a = &self.answer;
+        let first = |list: [usize; 8]| -> [usize; 6] { list[..MINUS + 1].try_into().unwrap() };
+        let (floats, words) = call.needed();
+        let mut lists = self.words.iter().map(|l| &l[..]);
+        let told = Told {
+            lent: (call.floats, first(call.words)),
+            needed: (floats, first(words)),
+            jobs: a.settled,
+            values: [a.smallest, a.largest],
+            places: [a.smallest_at, a.largest_at],
+            vectors: &self.floats[VECTORS],
+            words: [(); 6].map(|_| lists.next().unwrap()),
+        };
+        told.bytes(a.refusal, form)
+    }
+
+    /// What a sound call tells of its sound jobs: the same form, and of the buffers the two rows of the sum alone.
+    pub fn sound_bytes(&self, call: &Call) -> Vec<u8> {
+        let a = &self.answer;
+        let rows = |list: [usize; 8]| [0, 0, 0, 0, list[SOUND_PLUS], list[SOUND_MINUS]];
+        let told = Told {
+            lent: ([0; 5], rows(call.words)),
+            needed: ([0; 5], rows(call.needed().1)),
+            jobs: a.sound,
+            values: [a.sound_smallest, a.sound_largest],
+            places: [a.sound_smallest_at, a.sound_largest_at],
+            vectors: &[],
+            words: [&[], &[], &[], &[], &self.words[SOUND_PLUS], &self.words[SOUND_MINUS]],
+        };
+        told.bytes(a.refusal, Form::Two)
     }
 }
 
@@ -272,6 +319,12 @@ impl Report {
 pub fn calls_file(form: Form, list: &[(Call, Report)]) -> Vec<u8> {
     let parts = list.iter().map(|(call, report)| (call.bytes(form), report.bytes(call, form))).collect();
     file_of(CALLS[form as usize], parts)
+}
+
+/// A file of calls of sound spreads, each followed by its two reports, which count together.
+pub fn sound_file(list: &[(Call, Report)]) -> Vec<u8> {
+    let reports = |(call, report): &(Call, Report)| [report.bytes(call, Form::Two), report.sound_bytes(call)].concat();
+    file_of(SOUND, list.iter().map(|pair| (pair.0.bytes(Form::Two), reports(pair))).collect())
 }
 
 /// A file of jobs: magic, number of jobs, largest job and largest answer in bytes, then each job, with its answer where there

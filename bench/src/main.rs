@@ -53,7 +53,7 @@ fn conclude(differences: u64) -> u64 {
 
 const USAGE: &str = "usage: bench run SEED COUNT FOLDER | directed | show | leaves SEED COUNT | jobs SEED COUNT FOLDER
     | job SEED PLACE | waiting-job SEED PLACE | find READING SEED COUNT | list SEED FILE [FORM] | list-budget FILE | list-catchup SEED FILE
-    | list-spreads SEED FILE
+    | list-spreads SEED FILE | list-sound SEED FILE
     | replay FILE | speed | time [ROW [FILE]] | spreads SEED CALLS | spread SEED PLACE | sound-spread SEED PLACE | spreads-speed FOLDER FILE";
 
 fn main() {
@@ -85,6 +85,7 @@ fn main() {
         "list-budget" => list::write_budgets(text(1, "answers3.bin")),
         "list-catchup" => list::write_waiting(seed(), text(2, "answers4.bin")),
         "list-spreads" => spread_list::write(seed(), text(2, "spreads.bin")),
+        "list-sound" => spread_list::write_sound(seed(), text(2, "sound.bin")),
         "replay" => list::replay(text(1, "answers.bin")),
         "speed" => speed::run(),
         "time" => speed::time(args.get(1).map(|_| number(1, 0) as usize), text(2, "-")),

@@ -1,11 +1,12 @@
-//! The fixed list of calls of spreads: each with the report that single runs of the Rust add up to, for a replay without any Rust.
+//! The fixed lists of calls of spreads and of sound spreads: each with the report that single runs of the Rust add up to, for a
+//! replay without any Rust.
 
 use crate::exact;
-use crate::form::{calls_file, Form};
+use crate::form::{calls_file, sound_file, Form};
 use crate::job::*;
 use crate::list;
 use crate::spread_calls::{self, *};
-use crate::spread_rules::{refusal, report, Slip};
+use crate::spread_rules::{refusal, report, Slip, BEHIND, REJECTED};
 use crate::tally::Tally;
 
 /// No call of the list lends more than these, nor has more bytes of sheets or of words that its report holds: the replay has room for so many.
@@ -33,6 +34,9 @@ fn answered(call: &Call) -> (Report, Vec<String>) {
     let runs = runs(call);
     let made = report(call, &runs, exact::judge, Slip::Nothing);
     let mut kinds: Vec<String> = runs.iter().map(|r| r.outcome()).collect();
+    if call.sound {
+        kinds.extend(sound_kinds(call, &made));
+    }
     kinds.sort();
     kinds.dedup();
     if made.answer.settled == 0 {
@@ -41,6 +45,22 @@ fn answered(call: &Call) -> (Report, Vec<String>) {
         kinds.extend(settled_kinds(call, &runs, &made));
     }
     (made, kinds)
+}
+
+/// What a sound call brings: causes, with the option off or on, and reports that differ.
+fn sound_kinds(call: &Call, made: &Report) -> Vec<String> {
+    let a = &made.answer;
+    let on = if call.options.catchup != 0 { ", on" } else { "" };
+    let causes = made.words[NUMBER][..call.jobs].iter().filter(|c| [11, BEHIND, REJECTED].contains(c));
+    let mut kinds: Vec<String> = causes.map(|c| format!("cause {}{}", c, on)).collect();
+    let found = [
+        (a.settled > 0 && a.sound == 0, "none sound"),
+        (a.sound > 0 && a.sound_smallest_at != a.smallest_at, "another smallest"),
+        (a.sound > 0 && a.sound_largest_at != a.largest_at, "another largest"),
+        (a.sound > 0 && !call.tolerances.is_empty(), "judged and sound"),
+    ];
+    kinds.extend(found.iter().filter(|f| f.0).map(|f| format!("{}{}", f.1, on)));
+    kinds
 }
 
 /// What a call with settled jobs brings: ties, and the kinds of records that need more than stamps.
@@ -79,9 +99,27 @@ fn tighten(call: &mut Call) {
 
 /// Writes the list made from a seed.
 pub fn write(seed: u64, path: &str) -> u64 {
+    let (taken, kinds) = taken(seed, spread_calls::directed(), spread_calls::call);
+    let bytes = calls_file(Form::Two, &taken);
+    println!("{}: {} calls, {} bytes, seed {}; {}", path, taken.len(), bytes.len(), seed, list::stored(path, &bytes));
+    println!("  calls with: {}", kinds.line());
+    0
+}
+
+/// Writes the list of sound calls.
+pub fn write_sound(seed: u64, path: &str) -> u64 {
+    let (taken, kinds) = taken(seed, spread_calls::sound_directed(), spread_calls::sound_call);
+    let bytes = sound_file(&taken);
+    println!("{}: {} calls, {} bytes, seed {}; {}", path, taken.len(), bytes.len(), seed, list::stored(path, &bytes));
+    println!("  calls with: {}", kinds.line());
+    0
+}
+
+/// The directed calls, and of the random ones those that bring something.
+fn taken(seed: u64, directed: Vec<Call>, draw: fn(u64, u64) -> Call) -> (Vec<(Call, Report)>, Tally) {
     let mut taken: Vec<(Call, Report)> = Vec::new();
     let mut kinds = Tally::default();
-    for mut call in spread_calls::directed() {
+    for mut call in directed {
         tighten(&mut call);
         assert!(fits(&call), "a directed call lends too much");
         let (made, brings) = answered(&call);
@@ -90,7 +128,7 @@ pub fn write(seed: u64, path: &str) -> u64 {
     }
     let mut long = false;
     for place in 0..20_000 {
-        let call = spread_calls::call(seed, place);
+        let call = draw(seed, place);
         let bytes = call.sheets.len() + call.points.len();
         let largest = !long && call.jobs == MOST_JOBS && refusal(&call) == 0 && call.unknowns() <= 5;
         if !fits(&call) || !(bytes <= SMALL || largest) {
@@ -104,8 +142,5 @@ pub fn write(seed: u64, path: &str) -> u64 {
         brings.iter().for_each(|k| kinds.add(k));
         taken.push((call, made));
     }
-    let bytes = calls_file(Form::Two, &taken);
-    println!("{}: {} calls, {} bytes, seed {}; {}", path, taken.len(), bytes.len(), seed, list::stored(path, &bytes));
-    println!("  calls with: {}", kinds.line());
-    0
+    (taken, kinds)
 }

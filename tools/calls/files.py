@@ -14,7 +14,7 @@ OPTIONS = {'reltol': 1e-3, 'vntol': 1e-6, 'abstol': 1e-6, 'tstart': 0.0, 'tstop'
 # words of a head of form 1: how many a job and a file of spreads have, and the places of some; in form 2 they stand one place further on, behind their number
 JOB_HEAD, SPREADS_HEAD = 29, 24
 BYTES, ANALYSIS, JOBS, NODES, SOURCES, SHEET, POINTS = 0, 1, 1, 2, 3, 21, 22
-NUMBER_2, ANALYSIS_2 = 1, 2
+NUMBER_2, ANALYSIS_2, TOLERANCES_2, CATCHUP_2, KNOWN_2 = 1, 2, 25, 30, 31
 
 
 def words(*all):
@@ -67,13 +67,30 @@ def spreads2(b, **how):
     return form2(b, SPREADS_HEAD, first=b'SAVSPRD2', **how)
 
 
-# circuits: document 01's cases a (one volt), b (a divider), c (a source from ground to ground) and j (a capacitor); a node that hangs on a capacitor alone; a diode that is never finite
+def waiting(b, catchup=1):
+    """A job of form 1 as one of form 2 with the option catchup."""
+    return form2(b, JOB_HEAD, more=[catchup])
+
+
+def judged_spreads(b, tolerances, catchup=0):
+    """A file of spreads of form 1 as one of form 2 with tolerances and the option catchup."""
+    return spreads2(b, more=[len(tolerances), 0, 0, 0, 0, catchup]) + struct.pack(f'<{len(tolerances)}d', *tolerances)
+
+
+# circuits: document 01's cases a (one volt), b (a divider), c (a source from ground to ground) and j (a capacitor); a node that hangs on a capacitor alone; a diode that is never finite; one that is held back
 ONE_VOLT = [current(0, 1, 2.0), resistor(1, 0, 0.5)]
 DIVIDER = [voltage(1, 0, 0, 4.0), resistor(1, 2, 1.0), resistor(2, 0, 1.0)]
 CONTRADICTION = [voltage(0, 0, 0, 5.0)]
 LOADED = [resistor(1, 0, 1.0), capacitor(1, 0, 1.0), current(0, 1, 1.0)]
 HANGING = [capacitor(1, 0, 1.0), resistor(2, 0, 1.0), current(0, 2, 1.0)]
 HOT = [diode(1, 0, INF, 27.0)]
+
+
+def rectifier(volts):
+    """A diode behind a resistor. From 5 V on the first passes agree while the limiting still holds the diode back."""
+    return [voltage(1, 0, 0, volts), resistor(1, 2, 1000.0), diode(2, 0, 1e-12, 27.0)]
+
+
 POINT = struct.pack('<2d', 1.0, 1.0)
 
 
@@ -101,8 +118,10 @@ NO_SPREADS = 'is no file of spreads: it does not begin with SAVSPRD1 or SAVSPRD2
 IN_FIRST = 'ends inside its first 32 bytes'
 IN_NUMBERS = 'ends inside its numbers'
 IN_SHEETS = 'ends inside its sheets or its points, or they are larger than any that run'
+IN_TOLERANCES = 'ends inside its tolerances, or they are larger than any that run'
 GOES_ON = 'goes on after its last job'
 GOES_ON_POINTS = 'goes on after its points'
+GOES_ON_TOLERANCES = 'goes on after its tolerances'
 UNKNOWN_HEAD = 'a head with a number of words that no head has, or asks for what this program does not know'
 
 
@@ -167,6 +186,16 @@ def runs_of_jobs():
     beyond = [job([current(0, 1, x), resistor(1, 0, 1.0), resistor(2, 0, 1.0)], nodes=3) for x in (INF, -INF, NAN)]
     yield one('beyond-numbers', 'ended 21; ended 21; ended 21', DOUBT, *beyond)
     yield one('minus-zero', 'ended 0', SURE, job([resistor(1, 0, -1.0)]))
+    held = dict(nodes=3, sources=1, itl=(100, 0, 10))
+    yield one('behind', 'ended 0 behind 3', DOUBT, job(rectifier(5.0), **held))
+    yield one('behind-judged', 'ended 0 behind 3, accepted', DOUBT, job(rectifier(5.0), tolerances=[1e-6] * 4, **held))
+    yield one('behind-second', 'ended 0; ended 0 behind 4', DOUBT, job(rectifier(0.1), **held), job([resistor(2, 0, 1e6)] + rectifier(5.0), **held))
+    yield one('behind-20', 'ended 20 behind 3', DOUBT, job(rectifier(5.0), nodes=3, sources=1, itl=(0, 0, 10)))
+    yield one('behind-24', 'ended 24 behind 3', DOUBT, job(rectifier(5.0), budget=1, **held))
+    yield one('behind-nan', 'ended 0 behind 3', DOUBT, job(rectifier(5.0), vntol=NAN, **held))
+    yield one('no-diode-behind', 'ended 0', SURE, job(DIVIDER, nodes=3, sources=1, vntol=0.0))
+    yield one('moving-caught-up', 'ended 0 dc 0 rows 4', SURE, job(rectifier(5.0), transient=True, rows=9, **held))
+    yield one('moving-behind', 'ended 24 dc 0 rows 1 behind 3', DOUBT, job(rectifier(5.0), transient=True, rows=9, budget=3, **held))
 
 
 def heads_of_jobs():
@@ -177,7 +206,14 @@ def heads_of_jobs():
     yield two('long-head', 'ended 0, accepted', SURE, None, form2(judged, JOB_HEAD, more=[0] * 34))
     yield two('short-head', 'refused 1 at 0', DOUBT, None, form2(job([], nodes=0), JOB_HEAD, size=2))
     yield two('head-without-rows', 'ended 0', SURE, None, form2(good, JOB_HEAD, size=29))
-    yield two('unknown-word', 'ended 0', FAULT, unknown_head(1), form2(good, JOB_HEAD), form2(good, JOB_HEAD, more=[1]), form2(good, JOB_HEAD))
+    yield two('unknown-word', 'ended 0', FAULT, unknown_head(1), form2(good, JOB_HEAD), form2(good, JOB_HEAD, more=[0, 1]), form2(good, JOB_HEAD))
+    held = job(rectifier(5.0), nodes=3, sources=1, itl=(100, 0, 10))
+    yield two('caught-up', 'ended 0; ended 0 behind 3; ended 0', DOUBT, None, waiting(held), waiting(held, 0), waiting(held, 2**64 - 1))
+    yield two('caught-up-alone', 'ended 0', SURE, None, waiting(held))
+    yield two('caught-up-long-head', 'ended 0', SURE, None, form2(held, JOB_HEAD, more=[1] + [0] * 33))
+    yield two('caught-late', 'ended 20 behind 3', DOUBT, None, waiting(job(rectifier(5.0), nodes=3, sources=1, itl=(3, 0, 10))))
+    yield two('moving-waiting', 'ended 0 dc 0 rows 4', SURE, None, waiting(job(rectifier(5.0), nodes=3, sources=1, itl=(100, 0, 10), transient=True, rows=9)))
+    yield two('waiting-without-diode', 'ended 0', SURE, None, waiting(good))
     yield two('unknown-last-word', '', FAULT, unknown_head(0), form2(good, JOB_HEAD, more=[0] * 33 + [1]))
     for n in (0, 1, 65, 2**32 + 30, 2**64 - 1):
         yield two(f'head-of-{n}', '', FAULT, unknown_head(0), put(form2(good, JOB_HEAD), NUMBER_2, n) + bytes(600))
@@ -243,6 +279,7 @@ def runs_of_spreads():
     yield one('spread-empty-sheets', '2 of 0', SURE, spreads(b'', b''))
     yield one('spread-values', f'{len(VALUES)} of 0', SURE, spreads(*[voltage(1, 0, 0, x) + resistor(1, 0, 1.0) for x in VALUES], sources=1))
     yield one('spread-largest', '256 of 6', DOUBT, spreads(*[bytes(40 * 256)] * 256))
+    yield from judged_calls(one, good)
     refused = {
         '13': [put(spreads(good), JOBS, 0), put(spreads(good), JOBS, 257), spreads(good, unknown=2), put(spreads(good), JOBS, 2**64 - 1), spreads(good, unknown=2**64 - 1),
                spreads2(spreads(b''), size=2)],
@@ -256,6 +293,30 @@ def runs_of_spreads():
             yield File(f'call-refused-{number}-{i}', 'spreads', content, f'call refused {number}', FAULT, f'the whole call is refused by {number}')
 
 
+def judged_calls(one, good):
+    """Calls of spreads with tolerances, and with the option catchup: every cause, in the order in which they are asked."""
+    source, held, low, broken = (b''.join(r) for r in (CONTRADICTION, rectifier(5.0), rectifier(0.1), rectifier(0.1)[:2] + [bytes(40)]))
+    def sources(tolerances, **how): return judged_spreads(spreads(source, source, nodes=1, sources=1, unknown=0), tolerances, **how)
+    def diodes(*sheets): return spreads(*sheets, nodes=3, sources=1, unknown=2, itl=(100, 0, 10))
+    yield one('spread-judged', '2 of 0', SURE, judged_spreads(spreads(good, good), [0.0, 0.0]))
+    yield one('spread-not-judged', '2 of 0', SURE, judged_spreads(spreads(good, good), []))
+    yield one('spread-accepted', '2 of 0', SURE, sources([0.0, 5.0]))
+    yield one('spread-rejected', '2 of 28', DOUBT, sources([0.0, 4.9]))
+    yield one('spread-judge-11', '2 of 11', DOUBT, sources([0.0, -1.0]))
+    yield one('spread-judge-nan', '2 of 11', DOUBT, sources([NAN, 5.0]))
+    yield one('spread-judge-more', '2 of 0', SURE, sources([0.0, 5.0, -1.0]))
+    yield one('spread-judge-most', '2 of 0', SURE, sources([0.0] + [5.0] * 63))
+    yield one('spread-behind', '1 of 0; 2 of 27', DOUBT, diodes(held, low, held))
+    yield one('spread-all-behind', '2 of 27', DOUBT, diodes(held, held))
+    yield one('spread-caught-up', '3 of 0', SURE, judged_spreads(diodes(held, low, held), [], catchup=1))
+    yield one('spread-caught-up-judged', '3 of 0', SURE, judged_spreads(diodes(held, low, held), [1e-3] * 4, catchup=2**64 - 1))
+    yield one('spread-behind-judged', '1 of 0; 1 of 6; 2 of 27', DOUBT, judged_spreads(diodes(held, broken, low, held), [1e-3] * 4))
+    yield one('spread-behind-first', '1 of 11; 1 of 27', DOUBT, judged_spreads(diodes(held, low), [-1.0] * 4))
+    yield one('spread-verdict-first', '1 of 6; 2 of 20', DOUBT, judged_spreads(spreads(held, broken, low, nodes=3, sources=1, unknown=2, itl=(0, 0, 0)), [-1.0] * 4))
+    for i, (tolerances, catchup) in enumerate([([5.0], 0), ([5.0], 1)]):
+        yield File(f'call-refused-5-{i}', 'spreads', sources(tolerances, catchup=catchup), 'call refused 5', FAULT, 'the whole call is refused by 5')
+
+
 def faults_of_spreads():
     """Files of spreads that cannot be read to their end."""
     good = spreads(b''.join(ONE_VOLT), points=POINT)
@@ -265,8 +326,18 @@ def faults_of_spreads():
     yield bad('spread-form-3', NO_SPREADS, b'SAVSPRD3' + good[8:])
     yield bad('jobs-as-spreads', NO_SPREADS, jobs(job(ONE_VOLT)))
     yield bad('spread-answers', NO_SPREADS, b'SAVANSW1' + jobs(job(ONE_VOLT))[8:])
-    yield bad('spread-unknown-word', 'has ' + UNKNOWN_HEAD, spreads2(good, more=[1]))
-    yield bad('spread-unknown-last-word', 'has ' + UNKNOWN_HEAD, spreads2(good, more=[0] * 38 + [1]))
+    for place in (26, 27, 28, 29, KNOWN_2, 63):
+        for word in (1, 2**64 - 1):
+            yield bad(f'spread-unknown-word-{place}-{word}', 'has ' + UNKNOWN_HEAD, put(spreads2(good, more=[0] * 39), place, word))
+    judged = judged_spreads(good, [0.0, 0.0])
+    yield bad('spread-no-tolerances', IN_TOLERANCES, spreads2(good, more=[1]))
+    for n in (3, 64, 65, 2**31, 2**61, 2**61 + 2, 2**63, 2**64 - 1):
+        yield bad(f'spread-tolerances-of-{n}', IN_TOLERANCES, put(judged, TOLERANCES_2, n))
+    yield bad('spread-tolerances-too-large', IN_TOLERANCES, judged_spreads(good, [0.0] * 65))
+    yield bad('spread-tolerances-of-0', GOES_ON_POINTS, put(judged, TOLERANCES_2, 0))
+    yield bad('spread-tolerances-of-1', GOES_ON_TOLERANCES, put(judged, TOLERANCES_2, 1))
+    for n in (1, 8, 1000):
+        yield bad(f'spread-goes-on-judged-{n}', GOES_ON_TOLERANCES, judged + bytes(n))
     for n in (0, 1, 65, 2**32 + 25, 2**64 - 1):
         yield bad(f'spread-head-of-{n}', 'has ' + UNKNOWN_HEAD, put(spreads2(good), NUMBER_2, n) + bytes(600))
     for n in (1, 8, 1000):
@@ -297,11 +368,15 @@ def cuts_of_jobs(form):
 
 
 def cuts_of_spreads(form):
-    head, content = 8 * (SPREADS_HEAD + form - 1), spreads(b''.join(ONE_VOLT), points=POINT)
+    """Each cut of a small file of spreads, in form 2 one with tolerances, with its fault."""
+    content = spreads(b''.join(ONE_VOLT), points=POINT)
+    head, points = 8 * SPREADS_HEAD, len(content)
     if form == 2:
-        content = spreads2(content)
+        head, points = 8 * KNOWN_2, 8 * KNOWN_2 + points - head
+        content = judged_spreads(content, [0.0, 0.0])
     for n in range(len(content)):
-        yield content[:n], NO_BYTE if n == 0 else NO_SPREADS if n < 8 else IN_NUMBERS if n < head else IN_SHEETS, ''
+        fault = NO_BYTE if n == 0 else NO_SPREADS if n < 8 else IN_NUMBERS if n < head else IN_SHEETS if n < points else IN_TOLERANCES
+        yield content[:n], fault, ''
 
 
 def slow(budget, n, nodes=22):

@@ -13,35 +13,43 @@ KINDS = {kind: fields.split() for kind, fields in {
     'format': 'version',
     'file': 'file holds name',
     'fault': 'file',
-    'job': 'file job analysis nodes sources',
+    'job': 'file job analysis nodes sources catchup',
     'refused': 'file job number meaning place',
-    'ended': 'file job verdict meaning dc_verdict passes rows end end_bits',
+    'ended': 'file job verdict meaning dc_verdict passes rows end end_bits behind',
+    'behind': 'file job place across across_bits limited limited_bits',
     'unknown': 'file job of index value value_bits',
     'row': 'file job row time time_bits values values_bits',
     'judged': 'file job answer row number',
-    'spreads': 'file jobs nodes sources of index',
+    'spreads': 'file jobs nodes sources of index tolerances catchup',
     'call_refused': 'file number meaning',
     'count': 'file number meaning jobs',
     'total': 'file runs jobs',
+    'sound': 'file sound jobs',
+    'cause': 'file cause meaning jobs',
+    'not_sound': 'file job cause meaning place across across_bits limited limited_bits row',
+    'sound_smallest': 'file value value_bits job',
+    'sound_largest': 'file value value_bits job',
+    'sound_mean': 'file value value_bits sound',
     'smallest': 'file value value_bits job',
     'largest': 'file value value_bits job',
     'mean': 'file value value_bits settled',
     'not_settled': 'file job number meaning place passes',
+    'run': 'file job number passes cause place value value_bits',
     'status': 'status',
 }.items()}
 
 # fields that are no whole number: words, of which some are these alone; the name of a file; floats; a list of floats
 WORDS = {'holds': ['jobs', 'spreads'], 'analysis': ['dc', 'transient'], 'of': ['node', 'source'], 'answer': ['accepted', 'rejected', 'refused'], 'meaning': None}
-FLOATS = ['end', 'value', 'time']
+FLOATS = ['end', 'value', 'time', 'across', 'limited']
 LISTS = ['values']
 
 # what a file's records are, in order
 ORDER = {
-    'jobs': r'(job (refused |ended (unknown )*(row )*(judged )?))*(fault )?',
-    'spreads': r'fault |spreads (call_refused fault |(count )+total (smallest largest mean )?(not_settled )*)',
+    'jobs': r'(job (refused |ended (behind )?(unknown )*(row )*(judged )?))*(fault )?',
+    'spreads': r'fault |spreads (call_refused fault |(count )+total sound (cause )+(not_sound )*(sound_smallest sound_largest sound_mean )?(smallest largest mean )?(not_settled )*(run )+)',
 }
 
-# the words of refusals and verdicts; two numbers have others where they mean something else
+# the words of refusals, verdicts and causes; three numbers have others where they mean something else
 MEANINGS = {
     0: 'settled',
     1: 'no node, or more than 48 unknowns',
@@ -54,6 +62,7 @@ MEANINGS = {
     8: 'node not below the node count',
     9: 'source number not below the source count',
     10: 'points beyond those given',
+    11: 'a number not finite, or a tolerance below zero',
     13: 'no job, more than 256, or no such unknown',
     20: 'DC passes used up',
     21: 'convergence error',
@@ -62,10 +71,14 @@ MEANINGS = {
     24: 'budget spent',
     25: 'no room for the next row',
     26: 'sine refused',
+    27: 'a diode is behind',
+    28: 'the judge rejects its vector',
 }
 SHEETS = 'sheets not of one length, not whole records, or too many records'  # 2 of a whole call of spreads
 AT_END = 'reached its end'  # 0 of a transient
-OF_DC = [0, 6, 7, 8, 9, 10, 20, 21, 22, 24]  # the numbers that a DC job can have
+SOUND = 'sound'  # 0 as a cause
+OF_DC = [0, 6, 7, 8, 9, 10, 20, 21, 22, 24]  # the numbers that a DC job can have of its own
+OF_JUDGE, NOT_SOUND = [11, 28], [11, 27, 28]  # the judge's causes, and all of a settled run that is not sound
 
 
 class Wrong(Exception):
@@ -117,8 +130,8 @@ def check_record(r):
         elif not field.endswith('_bits'):
             demand(re.fullmatch('0|[1-9][0-9]*', text), f'{field} {text!r} is no whole number')
     if 'meaning' in r:
-        number = int(r['verdict'] if 'verdict' in r else r['number'])
-        meanings = [SHEETS] if r['kind'] == 'call_refused' and number == 2 else [MEANINGS.get(number)]
+        number = int(r['cause'] if 'cause' in r else r['verdict'] if 'verdict' in r else r['number'])
+        meanings = [SHEETS] if r['kind'] == 'call_refused' and number == 2 else [SOUND] if r['kind'] == 'cause' and number == 0 else [MEANINGS.get(number)]
         if r['kind'] == 'ended' and number == 0:
             meanings.append(AT_END)
         demand(r['meaning'] in meanings, f'meaning {r["meaning"]!r} of {number}, expected {meanings}')
@@ -229,7 +242,7 @@ def check_order(part, holds):
     demand([r['job'] for r in got['job']] == [str(k) for k in range(len(got['job']))], 'jobs not counted from 0')
     for job in got['job']:
         k, n = job['job'], [int(job['nodes']), int(job['sources'])]
-        of_job = {kind: [r for r in got[kind] if r['job'] == k] for kind in ('refused', 'ended', 'unknown', 'row', 'judged')}
+        of_job = {kind: [r for r in got[kind] if r['job'] == k] for kind in ('refused', 'ended', 'behind', 'unknown', 'row', 'judged')}
         demand(len(of_job['refused']) + len(of_job['ended']) == 1, f'job {k} is not refused or ended once')
         for ended in of_job['ended']:
             names = [('node', str(i)) for i in range(n[0])] + [('source', str(i)) for i in range(n[1])]
@@ -239,34 +252,59 @@ def check_order(part, holds):
             transient = job['analysis'] == 'transient'
             demand(transient or (ended['dc_verdict'], ended['rows'], ended['end_bits']) == ('0', '0', '0' * 16), f'DC job {k}: {ended}')
             demand((ended['meaning'] == AT_END) == (transient and ended['verdict'] == '0'), f'meaning of job {k}: {ended}')
+            demand([int(r['place']) + 1 for r in of_job['behind']] == [int(ended['behind'])] * (ended['behind'] != '0'), f'job {k} is behind at {of_job["behind"]}: {ended}')
         for r in of_job['judged']:
             demand((r['row'] == '0' or r['answer'] == 'rejected') and (r['number'] != '0') == (r['answer'] == 'refused'), f'{r}')
-    for total in got['total']:
-        jobs = got['spreads'][0]['jobs']
-        numbers = [int(r['number']) for r in got['count']]
-        demand(numbers == sorted(set(OF_DC) | {int(r['number']) for r in got['not_settled']}), f'counts of {numbers}')
-        demand([total['runs'], total['jobs']] == [str(sum(int(r['jobs']) for r in got['count'])), jobs], f'{total}')
-        for count in got['count'][1:]:
-            demand(int(count['jobs']) == sum(r['number'] == count['number'] for r in got['not_settled']), f'{count} and the runs that did not settle')
-        demand(int(got['count'][0]['jobs']) + len(got['not_settled']) == int(jobs), 'settled and not settled are not all')
-        demand(all(r['settled'] == got['count'][0]['jobs'] for r in got['mean']) and bool(got['mean']) == (got['count'][0]['jobs'] != '0'), 'the mean')
+    if got['total']:
+        check_counts(got)
+
+
+def check_counts(got):
+    """The numbers of a call of spreads: by number, by cause, over all, and run by run."""
+    jobs, judged, runs = got['spreads'][0]['jobs'], got['spreads'][0]['tolerances'] != '0', got['run']
+    demand([r['job'] for r in runs] == [str(k) for k in range(int(jobs))], 'runs not counted from 0')
+    for r in runs:
+        demand(int(r['number']) == (0 if int(r['cause']) in NOT_SOUND else int(r['cause'])), f'number and cause: {r}')
+        demand(r['place'] == '0' or int(r['cause']) in (6, 7, 8, 9, 10, 27, 28), f'a place: {r}')
+    for kind, field, always in ('count', 'number', OF_DC), ('cause', 'cause', OF_DC + [27] + OF_JUDGE * judged):
+        numbers = [int(r[field]) for r in got[kind]]
+        demand(numbers == sorted(set(always) | {int(r[field]) for r in runs}), f'{kind} of {numbers}')
+        for r in got[kind]:
+            demand(int(r['jobs']) == sum(run[field] == r[field] for run in runs), f'{r} and the runs')
+        demand(sum(int(r['jobs']) for r in got[kind]) == int(jobs), f'{kind}: not all jobs')
+    demand([got['total'][0]['runs'], got['total'][0]['jobs']] == [jobs, jobs], f'{got["total"]}')
+    settled, sound = got['count'][0]['jobs'], got['cause'][0]['jobs']
+    demand([got['sound'][0]['sound'], got['sound'][0]['jobs']] == [sound, jobs], f'{got["sound"]}')
+    demand([r['settled'] for r in got['mean']] == [settled] * (settled != '0'), 'the mean over the settled runs')
+    demand([r['sound'] for r in got['sound_mean']] == [sound] * (sound != '0'), 'the mean over the sound runs')
+    for kind, field, mine in ('not_settled', 'number', [r for r in runs if r['number'] != '0']), ('not_sound', 'cause', [r for r in runs if int(r['cause']) in NOT_SOUND]):
+        demand([(r['job'], r[field]) for r in got[kind]] == [(r['job'], r[field]) for r in mine], f'{kind} and the runs')
+    for r in got['not_sound']:
+        place, cause = runs[int(r['job'])]['place'], r['cause']
+        demand((r['place'], r['row']) == (place if cause == '27' else '0', place if cause == '28' else '0'), f'{r} and its run')
+        demand(cause == '27' or (r['across_bits'], r['limited_bits']) == ('0' * 16, '0' * 16), f'voltages of {r}')
+    for r in got['not_settled']:
+        demand((r['place'], r['passes']) == (runs[int(r['job'])]['place'], runs[int(r['job'])]['passes']), f'{r} and its run')
 
 
 def sheet_of(part):
     """What a person is told of a file's records."""
     def number(text): return text.replace('Infinity', 'inf')
-    def meant(k, meaning): return f'{"refused by" if 0 < int(k) < 20 else "verdict"} {k} ({meaning})'
+    def meant(k, meaning): return {11: "judge's refusal", 27: 'cause', 28: 'cause'}.get(int(k), 'refused by' if 0 < int(k) < 20 else 'verdict') + f' {k} ({meaning})'
+    def volts(r): return f'record {r["place"]}, voltage across the diode = {number(r["across"])}, limited to {number(r["limited"])}'
     lines, transient = [], False
     for r in part:
         kind = r['kind']
         if kind == 'job':
             transient = r['analysis'] == 'transient'
-            lines.append(f'Job {r["job"]}: {"transient analysis" if transient else "DC operating point"}, {r["nodes"]} nodes with ground, {r["sources"]} sources')
+            lines.append(f'Job {r["job"]}: {"transient analysis" if transient else "DC operating point"}, {r["nodes"]} nodes with ground, {r["sources"]} sources{", catchup on" * (r["catchup"] != "0")}')
         elif kind == 'refused':
             lines.append(f'{meant(r["number"], r["meaning"])}, record {r["place"]}')
         elif kind == 'ended':
             more = f', DC verdict {r["dc_verdict"]}, rows {r["rows"]}, end time {number(r["end"])}' if transient else ''
             lines.append(f'{meant(r["verdict"], r["meaning"])}, passes {r["passes"]}{more}')
+        elif kind == 'behind':
+            lines.append(f'BEHIND: {volts(r)}' + '; this speaks of the last vector alone' * transient)
         elif kind == 'unknown':
             lines.append(f'{r["of"]} {r["index"]} = {number(r["value"])}')
         elif kind == 'row':
@@ -274,27 +312,36 @@ def sheet_of(part):
         elif kind == 'judged':
             lines.append({'accepted': 'the judge accepts every row', 'rejected': f'the judge rejects row {r["row"]}', 'refused': f'the judge refuses by {r["number"]}'}[r['answer']])
         elif kind == 'spreads':
-            lines.append(f'Spreads: {r["jobs"]} jobs in one call, DC operating point, {r["nodes"]} nodes with ground, {r["sources"]} sources; the chosen unknown is {r["of"]} {r["index"]}')
+            lines.append(f'Spreads: {r["jobs"]} jobs in one call, DC operating point, {r["nodes"]} nodes with ground, {r["sources"]} sources; the chosen unknown is {r["of"]} {r["index"]}; '
+                         + (f'judged with {r["tolerances"]} tolerances' if r['tolerances'] != '0' else 'not judged') + f'; catchup {"on" if r["catchup"] != "0" else "off"}')
         elif kind == 'call_refused':
             lines.append(f'the whole call is refused by {r["number"]} ({r["meaning"]}): no job ran')
-        elif kind == 'count':
-            lines.append(f'{meant(r["number"], r["meaning"])}: {r["jobs"]}')
-        elif kind == 'total':
-            lines.append(f'all: {r["runs"]} runs of {r["jobs"]} jobs given')
-        elif kind in ('smallest', 'largest'):
-            lines.append(f'{kind} = {number(r["value"])}, job {r["job"]}')
-        elif kind == 'mean':
-            lines.append(f'mean = {number(r["value"])}, settled runs {r["settled"]}')
-        elif kind == 'not_settled':
-            lines.append(f'job {r["job"]}: {meant(r["number"], r["meaning"])}, ' + (f'record {r["place"]}' if int(r['number']) < 20 else f'passes {r["passes"]}'))
     if any(r['kind'] == 'total' for r in part):
-        # two sentences that no record has: where no run settled, and how many did not
-        at = max(i for i, r in enumerate(part) if r['kind'] in ('total', 'mean'))
-        missing = sum(r['kind'] == 'not_settled' for r in part)
-        lines.insert(at + 1, f'not settled, and in no value above: {missing}' if missing else 'every run settled')
-        if part[at]['kind'] == 'total':
-            lines.insert(at + 1, 'no run settled: there is no smallest, no largest and no mean')
+        lines += sheet_of_spreads({kind: [r for r in part if r['kind'] == kind] for kind in KINDS}, number, meant, volts)
     return ''.join(line + '\n' for line in lines).encode()
+
+
+def sheet_of_spreads(got, number, meant, volts):
+    """The sheet of a call of spreads that was done, below its first line. A person gets the causes and not the numbers, and not every run."""
+    def value(name, r, what, k): return f'{name} = {number(r["value"])}, {what} {k}'
+    for r in got['cause']:
+        yield (r['meaning'] if r['cause'] == '0' else meant(r['cause'], r['meaning'])) + f': {r["jobs"]}'
+    yield f'all: {got["total"][0]["runs"]} runs of {got["total"][0]["jobs"]} jobs given'
+    if got['not_sound']:
+        yield f'NOT SOUND: {len(got["not_sound"])} of {got["mean"][0]["settled"]} settled runs; they are in no value below but the last'
+    for r in got['not_sound']:
+        yield f'job {r["job"]}: {meant(r["cause"], r["meaning"])}' + {'27': f', {volts(r)}', '28': f', row {r["row"]}'}.get(r['cause'], '')
+    if not got['mean']:
+        yield 'no run settled: there is no smallest, no largest and no mean'
+    elif not got['sound_mean']:
+        yield 'no run is sound: there is no smallest, no largest and no mean of sound runs'
+    for name in 'smallest', 'largest':
+        yield from (value(name, r, 'job', r['job']) for r in got['sound_' + name])
+    yield from (value('mean', r, 'sound runs', r['sound']) for r in got['sound_mean'])
+    yield from (value('mean over the settled', r, 'settled runs', r['settled']) for r in got['mean'])
+    yield f'not settled, and in no value above: {len(got["not_settled"])}' if got['not_settled'] else 'every run settled'
+    for r in got['not_settled']:
+        yield f'job {r["job"]}: {meant(r["number"], r["meaning"])}, ' + (f'record {r["place"]}' if int(r['number']) < 20 else f'passes {r["passes"]}')
 
 
 def said(part):
@@ -304,13 +351,13 @@ def said(part):
         if r['kind'] == 'refused':
             says.append(f'refused {r["number"]} at {r["place"]}')
         elif r['kind'] == 'ended':
-            says.append(f'ended {r["verdict"]}' + (f' dc {r["dc_verdict"]}' if transient else '') + (f' rows {r["rows"]}' if transient else ''))
+            says.append(f'ended {r["verdict"]}' + (f' dc {r["dc_verdict"]}' if transient else '') + (f' rows {r["rows"]}' if transient else '') + (f' behind {r["behind"]}' if r['behind'] != '0' else ''))
         elif r['kind'] == 'judged':
             says[-1] += ', ' + r['answer'] + {'accepted': '', 'rejected': ' ' + r['row'], 'refused': ' ' + r['number']}[r['answer']]
         elif r['kind'] == 'call_refused':
             says.append(f'call refused {r["number"]}')
-        elif r['kind'] == 'count' and r['jobs'] != '0':
-            says.append(f'{r["jobs"]} of {r["number"]}')
+        elif r['kind'] == 'cause' and r['jobs'] != '0':
+            says.append(f'{r["jobs"]} of {r["cause"]}')
         elif r['kind'] == 'job':
             transient = r['analysis'] == 'transient'
     return '; '.join(says)

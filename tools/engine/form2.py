@@ -1,11 +1,11 @@
 #!/usr/bin/env python3
 """Stored files in form 2 (docs/FORMATS.md), from those in form 1: the same jobs, with heads that say how many words they have.
 
-    form2.py            writes crates/engine_replay/data/answers2.bin and crates/savrunte_tool/data/front_end2.jobs and spreads2.jobs
+    form2.py            writes crates/engine_replay/data/answers2.bin and, in crates/savrunte_tool/data, front_end2.jobs, spreads2.jobs, waiting2.jobs, judged2.jobs and caught_up2.jobs
     form2.py --check    says whether they are what it would write
 
 The list of answers takes the directed jobs at the front of bench/answers.bin, and of the random ones behind them the first small one of every outcome. Some heads get words more than
-any version knows, all 0, and some lose the zeros at their end: neither changes a job.
+any version knows, all 0, and some lose the zeros at their end: neither changes a job. The last three have what form 1 cannot ask for: the option catchup, tolerances of spreads, and both, on a diode that is held back.
 """
 import struct
 import sys
@@ -14,12 +14,19 @@ from pathlib import Path
 TOP = Path(__file__).resolve().parents[2]
 DATA = TOP / "crates"
 
+sys.dont_write_bytecode = True
+sys.path.insert(0, str(TOP / "tools" / "calls"))
+import files as calls  # noqa: E402
+
 DIRECTED = 97  # jobs at the front of bench/answers.bin that are no random ones
 SMALL = 700  # bytes of a random job and its answer
 SPREADS = 8  # jobs of the file of spreads
 
 JOB, ANSWER, SPREAD = 29, 13, 24  # words of the heads in form 1
 MOST = 64  # words of a head
+
+VOLTS = [0.1, 0.4, 0.5, 0.6, 0.8, 1.0, 2.0, 5.0, 12.0]
+TOLERANCES = [1e-17, 1e-17, 1e-17, 1e-17]
 
 
 def word(b, k):
@@ -102,12 +109,34 @@ def spreads(b):
     return grown(fewer(b), SPREAD, first=b"SAVSPRD2", size=40)
 
 
+def held(**how):
+    """A diode behind a resistor, by itself: with 5 V its limiting still holds it back when the first passes agree."""
+    return calls.job(calls.rectifier(5.0), nodes=3, sources=1, itl=(100, 0, 10), **how)
+
+
+def waiting():
+    """With the option catchup and without it, at DC and through a transient."""
+    moving = dict(transient=True, rows=9)
+    all = [calls.waiting(held(), 0), calls.waiting(held()), calls.waiting(held(**moving), 0), calls.waiting(held(**moving)), calls.waiting(held(budget=3, **moving), 0)]
+    return calls.jobs(*all, form=2)
+
+
+def judged(catchup):
+    """Spreads of that circuit, one of them damaged, judged with one tolerance for each unknown."""
+    sheets = [b"".join(calls.rectifier(v)) for v in VOLTS]
+    sheets[2] = sheets[2][:-40] + bytes(40)
+    return calls.judged_spreads(calls.spreads(*sheets, nodes=3, sources=1, unknown=2, itl=(100, 0, 10)), TOLERANCES, catchup=catchup)
+
+
 def main():
     tool = DATA / "savrunte_tool" / "data"
     files = {
         DATA / "engine_replay" / "data" / "answers2.bin": answers((TOP / "bench" / "answers.bin").read_bytes()),
         tool / "front_end2.jobs": jobs((tool / "front_end.jobs").read_bytes()),
         tool / "spreads2.jobs": spreads((tool / "spreads.jobs").read_bytes()),
+        tool / "waiting2.jobs": waiting(),
+        tool / "judged2.jobs": judged(0),
+        tool / "caught_up2.jobs": judged(1),
     }
     if sys.argv[1:] == ["--check"]:
         same = all(p.exists() and p.read_bytes() == b for p, b in files.items())

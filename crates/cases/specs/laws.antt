@@ -1,2 +1,3 @@
 -- The bench's cases, computed from the definitions.
 pub mod Cases
+pub mod Lie

@@ -4,6 +4,7 @@ ghost use lib.ListN.{length};
 use super::clock;
 use super::going;
 use super::going::Going;
+use super::volts::volts_of;
 use engine::Ending;
 use engine::Outcome;
 use jobs::File;
@@ -114,36 +115,51 @@ fn run_whole(g: Going, h: Head, sheet: &[u8], points: &[u8], tolerances: &[u8]) 
     let mut rows = rows_room();
     let run = jobs::run_job(jobs::zero_rooms(), &mut rows, h, sheet, points);
     clock::job_over(g.clock);
-    let headed = say::heading(g.pen, h.transient, h.nodes, h.sources);
+    let o = h.options;
+    let headed = say::heading(g.pen, h.transient, h.nodes, h.sources, o.catchup);
     let outcome = run.outcome;
     let after = going::with(g, headed, shell::job_seen(outcome));
-    report(after, run, &rows, h, tolerances)
+    report(after, run, &rows, h, sheet, tolerances)
 }
 
 // Says how a job ended and what stands in its buffers, and judges the vector.
-fn report(g: Going, run: Run, rows: &[f64], h: Head, tolerances: &[u8]) -> Going {
+fn report(g: Going, run: Run, rows: &[f64], h: Head, sheet: &[u8], tolerances: &[u8]) -> Going {
     let outcome = run.outcome;
     match outcome {
         Outcome::Refused(k, i) => going::with(g, say::refused(g.pen, k, i), shell::sound()),
         Outcome::Ended(e) => {
             let rooms = run.rooms;
-            let after = going::with(g, ended(g.pen, e, rooms, rows, h), shell::sound());
+            let p = ended(g.pen, e, rooms, rows, h, sheet);
+            let after = going::with(g, p, shell::sound());
             judged(after, rooms, h, tolerances)
         }
     }
 }
 
-// Says how a run ended, its vector and its rows.
-fn ended(p: Pen, e: Ending, rooms: Rooms, rows: &[f64], h: Head) -> Pen {
+// Says how a run ended, whether a diode is behind, its vector and its rows.
+fn ended(p: Pen, e: Ending, rooms: Rooms, rows: &[f64], h: Head, sheet: &[u8]) -> Pen {
+    let q = behind(say::ended(p, e, h.transient), e.behind, rooms, h, sheet);
+    solved(q, e.rows, rooms, rows, h)
+}
+
+// Says the vector and the rows of a run.
+fn solved(p: Pen, count: u64, rooms: Rooms, rows: &[f64], h: Head) -> Pen {
     let vector = rooms.vector;
-    let q = say::ended(p, e, h.transient);
-    let r = say::vector(q, &vector, h.nodes, h.sources);
-    say::rows(
-        r,
-        rows,
-        e.rows,
-        std::num::wrapping_add_u64(h.nodes, h.sources),
-    )
+    let q = say::vector(p, &vector, h.nodes, h.sources);
+    let n = std::num::wrapping_add_u64(h.nodes, h.sources);
+    say::rows(q, rows, count, n)
+}
+
+// Says that a diode is behind, by its record's place and 1, with both of its voltages; 0 is none.
+fn behind(p: Pen, behind: u64, rooms: Rooms, h: Head, sheet: &[u8]) -> Pen {
+    if behind == 0 {
+        return p;
+    }
+    let place = behind - 1;
+    let vector = rooms.vector;
+    let memory = rooms.memory;
+    let v = volts_of(sheet, place as usize, &vector, &memory);
+    say::behind(p, place, v.across, v.limited, h.transient)
 }
 
 // Says what the judge finds, if there are tolerances.
@@ -177,7 +193,7 @@ fn judgement(rooms: Rooms, h: Head, tolerances: &[u8]) -> Judged {
 }
 
 // The floats of bytes.
-fn floats(bytes: &[u8], x: &mut [f64]) {
+pub fn floats(bytes: &[u8], x: &mut [f64]) {
     for i in 0..x.len() {
         x[i] = f64_at(bytes, 8 * i);
     }

@@ -1,5 +1,6 @@
 // A record for a machine: its kind, then its fields, each by its name. One function a record serves the header line, the line and the JSON object, so that names and values cannot part.
 ghost use mathlib.Core.Path.{_≡_};
+ghost use lib.ListN.{getD};
 ghost use Rattle.num.specs.Lists.{«at»};
 ghost use Rattle.pen.specs.Fields.{wholeQuoted, plainByte};
 use super::ink::Form;
@@ -14,6 +15,7 @@ use super::ink::text;
 use super::number::print_bits;
 use super::number::print_float;
 use super::word::call_word;
+use super::word::cause_word;
 use super::word::number_word;
 use super::word::verdict_word;
 
@@ -100,6 +102,15 @@ pub fn call_meaning(p: Pen, k: u8) -> Pen {
     quote(call_word(quote(q), k))
 }
 
+// What a job's cause means.
+pub fn cause_meaning(p: Pen, k: u8) -> Pen {
+    let q = named(p, b"meaning", b"");
+    if is_names(q) {
+        return q;
+    }
+    quote(cause_word(quote(q), k))
+}
+
 // A float: in decimal, and by its bits.
 pub fn float(p: Pen, name: &[u8], x: f64) -> Pen {
     let q = named(p, name, b"");
@@ -171,6 +182,16 @@ pub fn float_in(x: &[f64], i: usize) -> f64
         return 0.0 / 0.0;
     }
     x[i]
+}
+
+// x[i], and 0 past the end.
+pub fn word_in(x: &[u64], i: usize) -> u64
+    ensures { λ r. ⌜ r ≡ getD (now (x .entry)) i 0 ⌝ }
+{
+    if i < x.len() {
+        return x[i];
+    }
+    0
 }
 
 // A file's name: bytes that every reader takes as they are, and all others by their number behind a percent sign.

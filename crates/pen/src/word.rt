@@ -1,8 +1,9 @@
-// The plain words of refusals and verdicts, and the name of an unknown.
+// The plain words of refusals, verdicts and causes, and the name of an unknown.
 ghost use mathlib.Core.Path.{_≡_};
 ghost use Rattle.pen.specs.Words.{isRefusal, whichOf};
 use super::ink::Pen;
 use super::ink::text;
+use numbers::cause;
 use numbers::refusal;
 use numbers::verdict;
 
@@ -39,6 +40,16 @@ pub fn call_word(p: Pen, k: u8) -> Pen {
         );
     }
     number_word(p, k)
+}
+
+// What the cause of a job means: one that has none is sound, and a cause that is no number of the run is the judge's or a diode's.
+pub fn cause_word(p: Pen, k: u8) -> Pen {
+    match k {
+        verdict::SETTLED => text(p, b"sound"),
+        cause::BEHIND => text(p, b"a diode is behind"),
+        cause::REJECTED => text(p, b"the judge rejects its vector"),
+        _ => number_word(p, k),
+    }
 }
 
 // Whether a number is a refusal's: 0 and those from 20 on are verdicts.
@@ -80,6 +91,7 @@ fn refusal_word(p: Pen, k: u8) -> Pen {
         refusal::NODE => text(p, b"node not below the node count"),
         refusal::SOURCE => text(p, b"source number not below the source count"),
         refusal::PATTERN => text(p, b"points beyond those given"),
+        refusal::TOLERANCE => text(p, b"a number not finite, or a tolerance below zero"),
         refusal::JOBS => text(p, b"no job, more than 256, or no such unknown"),
         _ => text(p, b"no such refusal"),
     }

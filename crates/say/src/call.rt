@@ -1,4 +1,5 @@
 // What is written about a whole call: its beginning with the header lines, each file that is named, its end with the status, and its faults.
+use super::cause;
 use super::job;
 use super::spread;
 use engine::Ending;
@@ -40,19 +41,31 @@ fn job_names(p: Pen) -> Pen {
         passes: 0,
         rows: 0,
         end: 0.0,
+        behind: 0,
     };
-    let q = job::refused_record(job::job_record(p, false, 0, 0), 0, 0);
-    let r = job::unknown_record(job::ended_record(q, e, false), b"", 0, 0.0);
-    job::judged_record(job::row_record(r, &[], 0, 0, 0), b"", 0, 0)
+    let q = job::refused_record(job::job_record(p, false, 0, 0, 0), 0, 0);
+    let r = job::behind_record(job::ended_record(q, e, false), 0, 0.0, 0.0);
+    let s = job::unknown_record(r, b"", 0, 0.0);
+    job::judged_record(job::row_record(s, &[], 0, 0, 0), b"", 0, 0)
 }
 
 fn spread_names(p: Pen) -> Pen {
-    let q = spread::call_refused_record(spread::spreads_record(p, 0, 0, 0, 0), 0);
+    let q = spread::call_refused_record(spread::spreads_record(p, 0, 0, 0, 0, 0, 0), 0);
     let r = spread::total_record(spread::count_record(q, 0, 0), 0, 0);
-    let s = spread::value_record(r, b"smallest", 0.0, b"job", 0);
-    let t = spread::value_record(s, b"largest", 0.0, b"job", 0);
-    let u = spread::value_record(t, b"mean", 0.0, b"settled", 0);
-    spread::not_settled_record(u, 0, 0, 0)
+    let s = cause::cause_record(cause::sound_record(r, 0, 0), 0, 0);
+    let t = cause::not_sound_record(s, 0, 0, 0.0, 0.0, 0);
+    let u = spread::not_settled_record(value_names(t), 0, 0, 0);
+    spread::run_record(u, 0, 0, 0, 0, 0.0)
+}
+
+// The values over the sound runs, and over the settled ones.
+fn value_names(p: Pen) -> Pen {
+    let q = cause::value_record(p, b"sound_smallest", 0.0, b"job", 0);
+    let r = cause::value_record(q, b"sound_largest", 0.0, b"job", 0);
+    let s = cause::value_record(r, b"sound_mean", 0.0, b"sound", 0);
+    let t = cause::value_record(s, b"smallest", 0.0, b"job", 0);
+    let u = cause::value_record(t, b"largest", 0.0, b"job", 0);
+    cause::value_record(u, b"mean", 0.0, b"settled", 0)
 }
 
 // A file that is named; a person sees its name where there are several.

@@ -24,18 +24,26 @@ use pen::which;
 use pen::whole;
 
 // The job that follows.
-pub fn heading(p: Pen, transient: bool, nodes: u64, sources: u64) -> Pen {
+pub fn heading(p: Pen, transient: bool, nodes: u64, sources: u64, catchup: u64) -> Pen {
     if is_person(p) {
-        return heading_line(p, transient, nodes, sources);
+        return heading_line(p, transient, nodes, sources, catchup);
     }
-    job_record(p, transient, nodes, sources)
+    job_record(p, transient, nodes, sources, catchup)
 }
 
-fn heading_line(p: Pen, transient: bool, nodes: u64, sources: u64) -> Pen {
+fn heading_line(p: Pen, transient: bool, nodes: u64, sources: u64, catchup: u64) -> Pen {
     let q = print(text(p, b"Job "), p.job);
     let r = analysis_line(q, transient);
     let s = text(print(r, nodes), b" nodes with ground, ");
-    text(print(s, sources), b" sources\n")
+    text(waits(text(print(s, sources), b" sources"), catchup), b"\n")
+}
+
+// That the job asks its passes to wait for diodes that are behind.
+fn waits(p: Pen, catchup: u64) -> Pen {
+    if catchup == 0 {
+        return p;
+    }
+    text(p, b", catchup on")
 }
 
 fn analysis_line(p: Pen, transient: bool) -> Pen {
@@ -45,10 +53,11 @@ fn analysis_line(p: Pen, transient: bool) -> Pen {
     text(p, b": DC operating point, ")
 }
 
-pub fn job_record(p: Pen, transient: bool, nodes: u64, sources: u64) -> Pen {
+pub fn job_record(p: Pen, transient: bool, nodes: u64, sources: u64, catchup: u64) -> Pen {
     let q = of_job(begin(p, b"job"));
     let r = analysis(q, transient);
-    end(whole(whole(r, b"nodes", nodes), b"sources", sources))
+    let s = whole(whole(r, b"nodes", nodes), b"sources", sources);
+    end(whole(s, b"catchup", catchup))
 }
 
 fn analysis(p: Pen, transient: bool) -> Pen {
@@ -108,7 +117,7 @@ pub fn ended_record(p: Pen, e: Ending, transient: bool) -> Pen {
         dc_verdict(e, transient),
     );
     let s = whole(whole(r, b"passes", e.passes), b"rows", e.rows);
-    end(float(s, b"end", e.end))
+    end(whole(float(s, b"end", e.end), b"behind", e.behind))
 }
 
 // The verdict of DC before a transient; a DC run has none before it.
@@ -119,6 +128,29 @@ fn dc_verdict(e: Ending, transient: bool) -> u64
         return e.dc as u64;
     }
     0
+}
+
+// The first diode that is behind: its record, the voltage across it in the run's last vector, and the last one that it was limited to.
+pub fn behind(p: Pen, place: u64, across: f64, limited: f64, transient: bool) -> Pen {
+    if !is_person(p) {
+        return behind_record(p, place, across, limited);
+    }
+    let q = voltages(print(text(p, b"BEHIND: record "), place), across, limited);
+    if transient {
+        return text(q, b"; this speaks of the last vector alone\n");
+    }
+    text(q, b"\n")
+}
+
+// Both voltages of a diode, for a person.
+pub fn voltages(p: Pen, across: f64, limited: f64) -> Pen {
+    let q = print_float(text(p, b", voltage across the diode = "), across);
+    print_float(text(q, b", limited to "), limited)
+}
+
+pub fn behind_record(p: Pen, place: u64, across: f64, limited: f64) -> Pen {
+    let q = whole(of_job(begin(p, b"behind")), b"place", place);
+    end(float(float(q, b"across", across), b"limited", limited))
 }
 
 // The unknowns: the nodes' voltages, then the sources' currents.

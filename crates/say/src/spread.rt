@@ -1,55 +1,76 @@
-// What is written about spreads: how many runs ended in each way, the chosen unknown over the settled ones, and every run that did not settle; on a sheet for a person, or as records for a machine.
+// What is written about spreads job by job: what was asked for, how many runs ended in each way, every run that did not settle and, for a machine, every run; on a sheet for a person, or as records for a machine.
 ghost use mathlib.Core.Path.{_≡_};
 ghost use Prim.Native.Nat.{min};
-ghost use lib.ListN.{getD};
-ghost use Rattle.say.specs.Totals.{totalOf, endsDc, shown};
+ghost use Rattle.say.specs.Totals.{totalOf, shown, numberOf, numberCount};
+use super::cause;
+use numbers::cause::BEHIND;
+use numbers::cause::REJECTED;
+use numbers::limit::JOB_CAUSES;
 use numbers::limit::JOB_NUMBERS;
-use numbers::refusal::KIND;
-use numbers::refusal::PATTERN;
-use numbers::verdict::BUDGET_SPENT;
-use numbers::verdict::DIODE_CURRENT;
-use numbers::verdict::PASSES_USED;
-use numbers::verdict::SETTLED;
+use numbers::refusal::TOLERANCE;
 use pen::Pen;
 use pen::Unknown;
-use pen::at_job as pen_at;
+use pen::at_job;
 use pen::begin;
 use pen::call_meaning;
 use pen::call_word;
 use pen::end;
 use pen::float;
+use pen::float_in;
 use pen::is_person;
 use pen::is_refusal;
 use pen::label;
 use pen::meaning;
-use pen::number_word;
 use pen::of_file;
 use pen::of_job;
 use pen::print;
-use pen::print_float;
 use pen::text;
 use pen::which;
 use pen::whole;
+use pen::word_in;
 
 // The numbers that a job can have are those below this one.
 const NUMBERS: u8 = JOB_NUMBERS as u8;
 
-// What was asked for.
-pub fn asked(p: Pen, jobs: u64, nodes: u64, sources: u64, unknown: u64) -> Pen {
+// What was asked for: with so many tolerances each vector is judged.
+pub fn asked(
+    p: Pen,
+    jobs: u64,
+    nodes: u64,
+    sources: u64,
+    unknown: u64,
+    tolerances: u64,
+    catchup: u64,
+) -> Pen {
     if is_person(p) {
-        return asked_line(p, jobs, nodes, sources, unknown);
+        let q = asked_line(p, jobs, nodes, sources, unknown);
+        return text(waiting(judging(q, tolerances), catchup), b"\n");
     }
-    spreads_record(p, jobs, nodes, sources, unknown)
+    spreads_record(p, jobs, nodes, sources, unknown, tolerances, catchup)
 }
 
 fn asked_line(p: Pen, jobs: u64, nodes: u64, sources: u64, unknown: u64) -> Pen {
     let q = print(text(p, b"Spreads: "), jobs);
     let r = print(text(q, b" jobs in one call, DC operating point, "), nodes);
     let s = print(text(r, b" nodes with ground, "), sources);
+    name(text(s, b" sources; the chosen unknown is "), unknown, nodes)
+}
+
+fn judging(p: Pen, tolerances: u64) -> Pen {
+    if tolerances == 0 {
+        return text(p, b"; not judged");
+    }
     text(
-        name(text(s, b" sources; the chosen unknown is "), unknown, nodes),
-        b"\n",
+        print(text(p, b"; judged with "), tolerances),
+        b" tolerances",
     )
+}
+
+fn waiting(p: Pen, catchup: u64) -> Pen {
+    if catchup == 0 {
+        return text(p, b"; catchup off");
+    }
+    text(p, b"; catchup on")
 }
 
 // The unknown's name: a node's voltage, or a source's current.
@@ -61,13 +82,29 @@ fn name(p: Pen, unknown: u64, nodes: u64) -> Pen {
     }
 }
 
-pub fn spreads_record(p: Pen, jobs: u64, nodes: u64, sources: u64, unknown: u64) -> Pen {
+pub fn spreads_record(
+    p: Pen,
+    jobs: u64,
+    nodes: u64,
+    sources: u64,
+    unknown: u64,
+    tolerances: u64,
+    catchup: u64,
+) -> Pen {
     let q = whole(of_file(begin(p, b"spreads")), b"jobs", jobs);
-    let r = whole(whole(q, b"nodes", nodes), b"sources", sources);
+    let r = unknown_field(
+        whole(whole(q, b"nodes", nodes), b"sources", sources),
+        unknown,
+        nodes,
+    );
+    end(whole(whole(r, b"tolerances", tolerances), b"catchup", catchup))
+}
+
+fn unknown_field(p: Pen, unknown: u64, nodes: u64) -> Pen {
     let u = which(unknown, nodes);
     match u {
-        Unknown::Node(i) => end(whole(label(r, b"of", b"node"), b"index", i)),
-        Unknown::Source(i) => end(whole(label(r, b"of", b"source"), b"index", i)),
+        Unknown::Node(i) => whole(label(p, b"of", b"node"), b"index", i),
+        Unknown::Source(i) => whole(label(p, b"of", b"source"), b"index", i),
     }
 }
 
@@ -85,21 +122,23 @@ pub fn call_refused_record(p: Pen, number: u8) -> Pen {
     end(call_meaning(q, number))
 }
 
-// How many jobs have each number, and that these are all the jobs given.
-pub fn counts(p: Pen, counts: &[u64], jobs: u64) -> Pen {
-    let mut q = p;
-    for k in 0..NUMBERS {
-        q = counted(q, k, at(counts, k as usize));
+// How many jobs have each cause, of which `counts` has a word each, and that these are all the jobs given. A machine gets the jobs by their own numbers, too.
+pub fn counts(p: Pen, counts: &[u64], jobs: u64, judged: bool) -> Pen {
+    let sum = total(counts);
+    if is_person(p) {
+        return total_line(cause::causes(p, counts, judged), sum, jobs);
     }
-    all(q, total(counts), jobs)
+    let q = total_record(numbers(p, counts), sum, jobs);
+    cause::causes(
+        cause::sound_record(q, word_in(counts, 0), jobs),
+        counts,
+        judged,
+    )
 }
 
-fn all(p: Pen, sum: u64, jobs: u64) -> Pen {
-    if is_person(p) {
-        let q = text(print(text(p, b"all: "), sum), b" runs of ");
-        return text(print(q, jobs), b" jobs given\n");
-    }
-    total_record(p, sum, jobs)
+fn total_line(p: Pen, sum: u64, jobs: u64) -> Pen {
+    let q = text(print(text(p, b"all: "), sum), b" runs of ");
+    text(print(q, jobs), b" jobs given\n")
 }
 
 pub fn total_record(p: Pen, sum: u64, jobs: u64) -> Pen {
@@ -110,25 +149,29 @@ pub fn total_record(p: Pen, sum: u64, jobs: u64) -> Pen {
     ))
 }
 
-// The sum of the counts of all numbers, modulo 2^64: the very sum where it is below that, as the counts of a call are (specs/laws/Totals.antt).
+// The sum of the counts of all causes, modulo 2^64: the very sum where it is below that, as the counts of a call are (specs/laws/Totals.antt).
 fn total(counts: &[u64]) -> u64
     ensures { λ r. ⌜ r ≡ totalOf (now (counts .entry)) ⌝ }
 {
     let mut sum: u64 = 0;
-    for k in 0..JOB_NUMBERS {
-        sum = std::num::wrapping_add_u64(sum, at(counts, k));
+    for k in 0..JOB_CAUSES {
+        sum = std::num::wrapping_add_u64(sum, word_in(counts, k));
     }
     sum
 }
 
-// The line of number k, if there is one.
-fn counted(p: Pen, k: u8, count: u64) -> Pen {
+// The record of each number that a job can have or that came.
+fn numbers(p: Pen, counts: &[u64]) -> Pen {
+    let mut q = p;
+    for k in 0..NUMBERS {
+        q = numbered(q, k, number_count(counts, k));
+    }
+    q
+}
+
+fn numbered(p: Pen, k: u8, count: u64) -> Pen {
     if !shows(k, count) {
         return p;
-    }
-    if is_person(p) {
-        let q = text(numbered(p, k), b": ");
-        return text(print(q, count), b"\n");
     }
     count_record(p, k, count)
 }
@@ -138,92 +181,33 @@ pub fn count_record(p: Pen, k: u8, count: u64) -> Pen {
     end(whole(meaning(q, k), b"jobs", count))
 }
 
-// Whether number k has a line: a DC run can end with it, or it did come.
+// How many jobs have this number of their own, out of the counts by cause: settled are the sound ones and those with a cause that is no number of the run.
+fn number_count(counts: &[u64], k: u8) -> u64
+    ensures { λ r. ⌜ r ≡ numberCount (now (counts .entry)) k ⌝ }
+{
+    if k == TOLERANCE {
+        return 0;
+    }
+    if k != 0 {
+        return word_in(counts, k as usize);
+    }
+    let sound = word_in(counts, 0);
+    let refused = std::num::wrapping_add_u64(sound, word_in(counts, TOLERANCE as usize));
+    let behind = std::num::wrapping_add_u64(refused, word_in(counts, BEHIND as usize));
+    std::num::wrapping_add_u64(behind, word_in(counts, REJECTED as usize))
+}
+
+// Whether number k has a record: a DC run can end with it, or it did come.
 fn shows(k: u8, count: u64) -> bool
     ensures { λ r. ⌜ r ≡ shown k count ⌝ }
 {
-    ends_dc(k) | (count != 0)
+    cause::ends_dc(k) | (count != 0)
 }
 
-// Whether a DC job can be refused by this number or end with it as its verdict.
-fn ends_dc(k: u8) -> bool
-    ensures { λ r. ⌜ r ≡ endsDc k ⌝ }
-{
-    let refused = (KIND <= k) & (k <= PATTERN);
-    let failed = (PASSES_USED <= k) & (k <= DIODE_CURRENT);
-    (k == SETTLED) | refused | failed | (k == BUDGET_SPENT)
-}
-
-// A job's number and what it means.
-fn numbered(p: Pen, k: u8) -> Pen {
-    let q = text(print(ended_by(p, k), k as u64), b" (");
-    text(number_word(q, k), b")")
-}
-
-fn ended_by(p: Pen, k: u8) -> Pen {
-    if is_refusal(k) {
-        return text(p, b"refused by ");
-    }
-    text(p, b"verdict ")
-}
-
-// Smallest, largest and mean of the chosen unknown over the settled runs.
-pub fn range(
-    p: Pen,
-    settled: u64,
-    smallest: f64,
-    smallest_at: u64,
-    largest: f64,
-    largest_at: u64,
-    mean: f64,
-) -> Pen {
-    if settled == 0 {
-        return none_settled(p);
-    }
-    let q = at_job(p, b"smallest", smallest, smallest_at);
-    let r = at_job(q, b"largest", largest, largest_at);
-    mean_of(r, mean, settled)
-}
-
-fn none_settled(p: Pen) -> Pen {
-    if is_person(p) {
-        return text(
-            p,
-            b"no run settled: there is no smallest, no largest and no mean\n",
-        );
-    }
-    p
-}
-
-// A value by its name, and the job where it stands.
-fn at_job(p: Pen, name: &[u8], x: f64, job: u64) -> Pen {
-    if is_person(p) {
-        return value_line(p, name, x, b", job ", job);
-    }
-    value_record(p, name, x, b"job", job)
-}
-
-fn mean_of(p: Pen, x: f64, settled: u64) -> Pen {
-    if is_person(p) {
-        return value_line(p, b"mean", x, b", settled runs ", settled);
-    }
-    value_record(p, b"mean", x, b"settled", settled)
-}
-
-// A value by its name, with the number that belongs to it.
-fn value_line(p: Pen, name: &[u8], x: f64, what: &[u8], k: u64) -> Pen {
-    let q = print_float(text(text(p, name), b" = "), x);
-    text(print(text(q, what), k), b"\n")
-}
-
-pub fn value_record(p: Pen, kind: &[u8], x: f64, what: &[u8], k: u64) -> Pen {
-    end(whole(float(of_file(begin(p, kind)), b"value", x), what, k))
-}
-
-// Every run that did not settle.
+// Every run that did not settle, by the causes of all jobs.
 pub fn unsettled(
     p: Pen,
-    numbers: &[u64],
+    causes: &[u64],
     places: &[u64],
     passes: &[u64],
     jobs: u64,
@@ -232,7 +216,8 @@ pub fn unsettled(
     let mut q = unsettled_line(p, jobs, settled);
     for i in 0..jobs {
         let k = i as usize;
-        q = run(q, i, at(numbers, k), at(places, k), at(passes, k));
+        let number = number_of(word_in(causes, k));
+        q = run(q, i, number, word_in(places, k), word_in(passes, k));
     }
     q
 }
@@ -255,7 +240,7 @@ fn run(p: Pen, job: u64, number: u64, place: u64, passes: u64) -> Pen {
         return p;
     }
     let k = small(number);
-    let q = pen_at(p, job);
+    let q = at_job(p, job);
     if is_person(q) {
         return run_line(q, k, place, passes);
     }
@@ -264,7 +249,7 @@ fn run(p: Pen, job: u64, number: u64, place: u64, passes: u64) -> Pen {
 
 fn run_line(p: Pen, k: u8, place: u64, passes: u64) -> Pen {
     let q = text(print(text(p, b"job "), p.job), b": ");
-    let r = numbered(q, k);
+    let r = cause::named(q, k);
     if is_refusal(k) {
         return text(print(text(r, b", record "), place), b"\n");
     }
@@ -276,18 +261,56 @@ pub fn not_settled_record(p: Pen, k: u8, place: u64, passes: u64) -> Pen {
     end(whole(whole(meaning(q, k), b"place", place), b"passes", passes))
 }
 
-// x[i], and 0 past the end.
-fn at(x: &[u64], i: usize) -> u64
-    ensures { λ r. ⌜ r ≡ getD (now (x .entry)) i 0 ⌝ }
-{
-    if i < x.len() {
-        return x[i];
+// For a machine every run, with the chosen unknown, which stands at this place of each vector of n floats.
+pub fn runs(
+    p: Pen,
+    causes: &[u64],
+    places: &[u64],
+    passes: &[u64],
+    vectors: &[f64],
+    jobs: u64,
+    n: u64,
+    unknown: u64,
+) -> Pen {
+    if is_person(p) {
+        return p;
     }
-    0
+    let mut q = p;
+    let mut x = unknown as usize;
+    for i in 0..jobs {
+        let k = i as usize;
+        let c = word_in(causes, k);
+        q = run_record(
+            at_job(q, i),
+            number_of(c),
+            word_in(passes, k),
+            c,
+            word_in(places, k),
+            float_in(vectors, x),
+        );
+        x = std::num::wrapping_add_usize(x, n as usize);
+    }
+    q
+}
+
+pub fn run_record(p: Pen, number: u64, passes: u64, cause: u64, place: u64, x: f64) -> Pen {
+    let q = whole(of_job(begin(p, b"run")), b"number", number);
+    let r = whole(whole(q, b"passes", passes), b"cause", cause);
+    end(float(whole(r, b"place", place), b"value", x))
+}
+
+// A job's own number, as it has it by itself: its cause, and 0 where that is no number of the run.
+fn number_of(cause: u64) -> u64
+    ensures { λ r. ⌜ r ≡ numberOf cause ⌝ }
+{
+    if cause::is_unsound(cause) {
+        return 0;
+    }
+    cause
 }
 
 // n as a byte, and 255 for all that are larger.
-fn small(n: u64) -> u8
+pub fn small(n: u64) -> u8
     ensures { λ r. ⌜ r ≡ min n 255 ⌝ }
 {
     if n < 255 {

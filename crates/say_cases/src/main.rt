@@ -6,6 +6,7 @@ use engine::Ending;
 use judge::Judged;
 use num::float_of;
 use pen::Pen;
+use tally::Report;
 
 fn main() {
     all(pen::pen_for(true, false));
@@ -25,7 +26,7 @@ fn all(p: Pen) {
 // A job that is refused, one of DC, and transients with rows and without.
 fn jobs(p: Pen) -> Pen {
     let q = say::refused(
-        say::heading(p, false, 9007199254740992, 9007199254740993),
+        say::heading(p, false, 9007199254740992, 9007199254740993, 0),
         8,
         41,
     );
@@ -34,22 +35,34 @@ fn jobs(p: Pen) -> Pen {
 
 fn vector(p: Pen) -> Pen {
     let x = floats();
-    let q = say::heading(pen::at_job(p, 1), false, 2, 14);
-    let r = say::vector(say::ended(q, ending(21, 21, 0.0), false), &x, 2, 14);
-    say::judged(r, Judged::Rejected(3))
+    let q = say::heading(pen::at_job(p, 1), false, 2, 14, 1);
+    let r = say::behind(
+        say::ended(q, ending(21, 21, 0.0), false),
+        2,
+        5.0,
+        0.625,
+        false,
+    );
+    say::judged(say::vector(r, &x, 2, 14), Judged::Rejected(3))
 }
 
 fn row_after_row(p: Pen) -> Pen {
     let x = floats();
-    let q = say::heading(pen::at_job(p, 2), true, 2, 1);
-    let r = say::rows(say::ended(q, ending(0, 20, 2.5e-6), true), &x, 4, 3);
-    say::judged(r, Judged::Refused(11))
+    let q = say::heading(pen::at_job(p, 2), true, 2, 1, 18446744073709551615);
+    let r = say::behind(
+        say::ended(q, ending(0, 20, 2.5e-6), true),
+        2,
+        0.0 / 0.0,
+        -0.0,
+        true,
+    );
+    say::judged(say::rows(r, &x, 4, 3), Judged::Refused(11))
 }
 
 // Rows of a time alone, and one that is not there.
 fn ended_alone(p: Pen) -> Pen {
     let x = floats();
-    let q = say::heading(pen::at_job(p, 3), true, 2, 1);
+    let q = say::heading(pen::at_job(p, 3), true, 2, 1, 0);
     let r = say::rows(say::ended(q, ending(26, 0, 1.0), true), &x, 17, 0);
     say::judged(r, Judged::Accepted)
 }
@@ -61,33 +74,60 @@ fn ending(verdict: u8, dc: u8, end: f64) -> Ending {
         passes: 1000000,
         rows: 4,
         end,
+        behind: 3,
     }
 }
 
-// A call that is refused, one of which no run settled, and one with a verdict that is no DC run's.
+// Calls that are refused; one of which no run settled, one of which some did and none is sound, and one with sound runs.
 fn spreads(p: Pen) -> Pen {
-    let q = say::call_refused(say::asked(p, 0, 12, 4, 11), 2);
-    let r = say::call_refused(say::asked(q, 257, 12, 4, 15), 13);
-    let n = numbers();
-    let s = say::unsettled(
-        say::range(say::asked(r, 4, 12, 4, 11), 0, 0.0, 0, 0.0, 0, 0.0),
-        &n,
-        &n,
-        &n,
-        4,
-        0,
-    );
+    let q = say::call_refused(say::asked(p, 0, 12, 4, 11, 0, 0), 2);
+    let r = say::call_refused(say::asked(q, 257, 12, 4, 15, 16, 1), 13);
+    some_sound(none_sound(none_settled(r)))
+}
+
+fn none_settled(p: Pen) -> Pen {
+    let n = causes();
+    let q = say::asked(p, 8, 12, 4, 11, 0, 0);
+    let r = say::range(say::not_sound_line(q, 0, 0), report(0), 0.0, report(0), 0.0);
+    say::unsettled(r, &n, &n, &n, 8, 0)
+}
+
+// Each cause of a settled run, told of one that has it.
+fn none_sound(p: Pen) -> Pen {
+    let q = say::not_sound_line(say::asked(p, 3, 12, 4, 11, 16, 0), 3, 0);
+    let r = say::not_sound(q, 0, 27, 2, 4.99998, 0.625);
+    let s = say::not_sound(say::not_sound(r, 1, 28, 3, 1.0, 1.0), 2, 11, 0, 1.0, 1.0);
+    say::range(s, report(0), 0.0, report(3), 0.5)
+}
+
+fn some_sound(p: Pen) -> Pen {
+    let q = say::not_sound_line(counted(p), 2, 2);
+    listed(say::range(q, report(2), 0.5, report(3), 0.25))
+}
+
+// With numbers that no DC run has, and with counts that are not there.
+fn counted(p: Pen) -> Pen {
     let c = counts();
-    let t = say::range(
-        say::counts(s, &c, 18446744073709551615),
-        2,
-        -0.0,
-        3,
-        1.0,
-        0,
-        0.5,
-    );
-    say::unsettled(t, &c, &c, &c, 2, 2)
+    let q = say::counts(p, &c, 18446744073709551615, false);
+    say::counts(q, &[2], 2, true)
+}
+
+fn listed(p: Pen) -> Pen {
+    let n = causes();
+    let x = floats();
+    let q = say::unsettled(p, &[0], &[0], &[0], 2, 2);
+    say::runs(q, &n, &n, &n, &x, 9, 3, 1)
+}
+
+// A report over so many runs.
+fn report(settled: u64) -> Report {
+    Report {
+        settled,
+        smallest: -0.0,
+        largest: 1.0,
+        smallest_at: 3,
+        largest_at: 0,
+    }
 }
 
 // Zeros, floats where the spelling changes, the smallest and the largest, and what is no number.
@@ -114,22 +154,25 @@ fn floats() -> [f64; 16]
     ]
 }
 
-// A settled run, a verdict, a refusal, and a number that is none.
-fn numbers() -> [u64; 4]
-    ensures { λ r. ⌜ 4 ≡ length r ⌝ }
+// A sound run, a verdict, a refusal, the causes of settled runs, numbers that are none.
+fn causes() -> [u64; 8]
+    ensures { λ r. ⌜ 8 ≡ length r ⌝ }
 {
-    [0, 24, 7, 9007199254740993]
+    [0, 24, 7, 27, 11, 28, 29, 9007199254740993]
 }
 
-// Settled twice, and once each: no verdict, a verdict of a transient, a refusal of the whole.
-fn counts() -> [u64; 27]
-    ensures { λ r. ⌜ 27 ≡ length r ⌝ }
+// Sound twice, once each: no verdict, a verdict of a transient, a refusal of the whole; and causes of settled runs.
+fn counts() -> [u64; 29]
+    ensures { λ r. ⌜ 29 ≡ length r ⌝ }
 {
-    let mut c = [0; 27];
+    let mut c = [0; 29];
     c[0] = 2;
     c[6] = 9007199254740993;
+    c[11] = 3;
     c[13] = 1;
     c[14] = 1;
     c[23] = 1;
+    c[27] = 4;
+    c[28] = 5;
     c
 }

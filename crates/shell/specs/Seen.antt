@@ -8,8 +8,8 @@ use Rattle.engine.specs.declared.Outcome.{Outcome}
 use Rattle.engine.specs.declared.Outcome.the-variants as Run
 use Rattle.judge.specs.declared.Judged.{Judged}
 use Rattle.judge.specs.declared.Judged.the-variants as Judge
-use Rattle.spreads.specs.declared.Spread.{Spread}
-use Rattle.spreads.specs.declared.Spread.the-variants as Call
+use Rattle.sound.specs.declared.Soundings.{Soundings}
+use Rattle.sound.specs.declared.Soundings.the-variants as Call
 use Rattle.shell.specs.declared.seen.Seen.{Seen}
 
 abbrev pub soundSeen : Seen
@@ -32,10 +32,10 @@ abbrev pub allSeen : List Seen → Seen
 allSeen [] = soundSeen
 allSeen (s ∷ ss) = bothSeen s (allSeen ss)
 
--- "doubtful if it was refused, ended with another verdict than 0, had a DC verdict other than 0 before its transient"
+-- "doubtful if it was refused, ended with another verdict than 0, had a DC verdict other than 0 before its transient, has a diode behind"
 abbrev pub jobSeen : Outcome → Seen
 jobSeen (Run.Refused k i) = doubtedSeen true
-jobSeen (Run.Ended e) = doubtedSeen (not (eqb (e .verdict) settled) || not (eqb (e .dc) settled))
+jobSeen (Run.Ended e) = doubtedSeen ((not (eqb (e .verdict) settled) || not (eqb (e .dc) settled)) || not (eqb (e .behind) 0))
 
 -- "or was not accepted by the judge that it asked for"
 abbrev pub judgedSeen : Judged → Seen
@@ -43,10 +43,10 @@ judgedSeen Judge.Accepted = doubtedSeen false
 judgedSeen (Judge.Rejected i) = doubtedSeen true
 judgedSeen (Judge.Refused k) = doubtedSeen true
 
--- a whole call that is refused is at fault; one that is done is doubtful "if not every job settled"
-abbrev pub spreadsSeen : Spread → ℕ → Seen
+-- a whole call that is refused is at fault; one that is done is doubtful "if not every job is sound"
+abbrev pub spreadsSeen : Soundings → ℕ → Seen
 spreadsSeen (Call.Refused k) jobs = faultSeen
-spreadsSeen (Call.Done r) jobs = doubtedSeen (not (eqb (r .settled) jobs))
+spreadsSeen (Call.Done r) jobs = doubtedSeen (not (eqb (r .sound .settled) jobs))
 
 -- 2 for a fault, which goes before doubt; 1 for doubt where doubt counts; else 0
 abbrev pub statusOf : Bool → Seen → ℕ

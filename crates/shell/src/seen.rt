@@ -3,13 +3,13 @@ ghost use mathlib.Core.Path.{_≡_};
 ghost use Rattle.shell.specs.Seen.{soundSeen, faultSeen, faultIf, doubtedSeen, bothSeen, jobSeen, judgedSeen, spreadsSeen, statusOf};
 use engine::Outcome;
 use judge::Judged;
-use spreads::Spread;
+use sound::Soundings;
 
 // What was seen so far.
 pub struct Seen {
     // an argument, a file or a whole call is at fault, or something could not be written
     pub fault: bool,
-    // a run did not settle, was refused, or was not accepted by its judge
+    // a run did not settle, was refused, has a diode behind, or was not accepted by its judge
     pub doubtful: bool,
 }
 
@@ -57,7 +57,7 @@ pub fn job_seen(outcome: Outcome) -> Seen
 {
     match outcome {
         Outcome::Refused(k, i) => doubted(true),
-        Outcome::Ended(e) => doubted((e.verdict != 0) | (e.dc != 0)),
+        Outcome::Ended(e) => doubted((e.verdict != 0) | (e.dc != 0) | (e.behind != 0)),
     }
 }
 
@@ -73,12 +73,15 @@ pub fn judged_seen(j: Judged) -> Seen
 }
 
 // A call of spreads with so many jobs.
-pub fn spreads_seen(answer: Spread, jobs: u64) -> Seen
+pub fn spreads_seen(answer: Soundings, jobs: u64) -> Seen
     ensures { λ r. ⌜ r ≡ spreadsSeen answer jobs ⌝ }
 {
     match answer {
-        Spread::Refused(k) => at_fault(),
-        Spread::Done(d) => doubted(d.settled != jobs),
+        Soundings::Refused(k) => at_fault(),
+        Soundings::Done(d) => {
+            let r = d.sound;
+            doubted(r.settled != jobs)
+        }
     }
 }
 

@@ -45,27 +45,27 @@ use Rattle.engine.specs.Work as work
 use Rattle.exact.specs.Exact as exact
 use Rattle.judge.specs.Judge as judge
 
-abbrev bits : List Float → List ℕ
+abbrev pub bits : List Float → List ℕ
 bits xs = map (toBits binary64) xs
 
 -- ---- a sheet: records of 40 bytes
 
 -- n as so many bytes, the low one first
-abbrev low : ℕ → ℕ → List ℕ
+abbrev pub low : ℕ → ℕ → List ℕ
 low zero n = []
 low (suc k) n = n % 256 ∷ low k (n / 256)
 
 -- kind, nodes, source and one float; the rest is zero
-abbrev record-of : ℕ → ℕ → ℕ → ℕ → Float → List ℕ
+abbrev pub record-of : ℕ → ℕ → ℕ → ℕ → Float → List ℕ
 record-of kind a b s x = kind ∷ 0 ∷ low 2 a ++ (low 2 b ++ (low 4 0 ++ (low 2 s ++ (low 4 0 ++ (low 8 (toBits binary64 x) ++ low 16 0)))))
 
-abbrev resistor : ℕ → ℕ → Float → List ℕ
+abbrev pub resistor : ℕ → ℕ → Float → List ℕ
 resistor a b x = record-of kind.resistor a b 0 x
 
 abbrev current : ℕ → ℕ → Float → List ℕ
 current a b x = record-of kind.current a b 0 x
 
-abbrev voltage : ℕ → ℕ → Float → ℕ → List ℕ
+abbrev pub voltage : ℕ → ℕ → Float → ℕ → List ℕ
 voltage a b x s = record-of kind.voltage a b s x
 
 abbrev storage : ℕ → ℕ → Float → List ℕ
@@ -74,7 +74,7 @@ storage a b x = record-of kind.capacitor a b 0 x
 -- ---- runs
 
 -- buffers full of fives, which no answer may show
-abbrev fives : ℕ → List Float
+abbrev pub fives : ℕ → List Float
 fives k = replicate k five
 
 abbrev run : Bool → ℕ → ℕ → ℕ → List ℕ → engine.Result
@@ -130,20 +130,20 @@ tinyRow = replicate 5 nought ++ (nought ∷ tiny ∷ huge ∷ huge ∷ replicate
 
 -- ---- the cases: what is computed, and what document 01 says
 
-record Case : Type 0 where
-  answer : List ℕ
-  expected : List ℕ
+pub record Case : Type 0 where
+  pub answer : List ℕ
+  pub expected : List ℕ
 
-abbrev case : List ℕ → List ℕ → Case
+abbrev pub case : List ℕ → List ℕ → Case
 case a e = record { answer = a; expected = e }
 
-abbrev equal : List ℕ → List ℕ → Bool
+abbrev pub equal : List ℕ → List ℕ → Bool
 equal [] [] = true
 equal [] (y ∷ ys) = false
 equal (x ∷ xs) [] = false
 equal (x ∷ xs) (y ∷ ys) = eqb x y && equal xs ys
 
-abbrev all : List Case → Bool
+abbrev pub all : List Case → Bool
 all [] = true
 all (c ∷ cs) = equal (c .answer) (c .expected) && all cs
 
@@ -181,5 +181,5 @@ cases =
 
 -- every case's answer is the document's
 answers : all cases ≡ true
-unfolding floats.absoluteOf le.le32 le.le64 le.floatAt loop.copied loop.rowAt checks.badOrder checks.badCounts checks.badRoom checks.sizesRefusal checks.checkedOf sheet.checkFrom sheet.badSheet sheet.badPoints range.nodesOf range.sourcesOf range.pointsOf range.nodesFit range.sourcesFit range.pointsFit range.elementFault bytes.recordAt bytes.elementOf bytes.usesOf bytes.zeros bytes.restZero bytes.decodeOf row.rowOf kinds.currentWrites kinds.conductanceWrites kinds.voltageWrites kinds.vcvsWrites kinds.vccsWrites kinds.capacitorWrites kinds.diodeWrites write.written write.stamped diodes.biased diodes.biasedAt diodes.diodesOf plain.baseWrites plain.dependentWrites plain.storageWrites plain.basedOn plain.dependentOf plain.storageOf records.writesOf sources.driven sources.drivenAt sources.independentOf stamping.baseOf stamping.completed stamping.linearOf stamping.stampOf capacitor.companionOf vpwl.lastOf vpwl.between vpwl.orZero vpwl.levelOn vpwl.levelAt vpwl.patternAt solve.indexOfNextAbs solve.swapped solve.lessScaled solve.reduced solve.cleared solve.column solve.eliminated solve.dot solve.unknown solve.lastUnknown solve.substituted solve.solution convergence.limit convergence.place convergence.checked convergence.convergenceOf control.dcOver control.dcAfter control.moved control.eased control.shortened control.stepAfter counters.next counters.verdictOf counters.dcVerdictOf machine.tried machine.writtenBy machine.landed machine.dcPass machine.stepPass machine.pass machine.runFor attempt.attemptOf begin.forgotten engine.runOf engine.endingOf engine.refusedOf work.endOf exact.units judge.total judge.residual judge.named judge.judgeRefusal judge.judgeOf Ieee.ofBits Ieee.toBits Ieee.add Ieee.sub Ieee.mul Ieee.div Ieee.rem Ieee.lt Ieee.le Ieee.eq Ieee.isNan
+unfolding floats.absoluteOf le.le32 le.le64 le.floatAt loop.copied loop.rowAt checks.badOrder checks.badCounts checks.badRoom checks.sizesRefusal checks.checkedOf sheet.checkFrom sheet.badSheet sheet.badPoints range.nodesOf range.sourcesOf range.pointsOf range.nodesFit range.sourcesFit range.pointsFit range.elementFault bytes.recordAt bytes.elementOf bytes.usesOf bytes.zeros bytes.restZero bytes.decodeOf row.rowOf kinds.currentWrites kinds.conductanceWrites kinds.voltageWrites kinds.vcvsWrites kinds.vccsWrites kinds.capacitorWrites kinds.diodeWrites write.written write.stamped diodes.biased diodes.biasedAt diodes.diodesOf plain.baseWrites plain.dependentWrites plain.storageWrites plain.basedOn plain.dependentOf plain.storageOf records.writesOf sources.driven sources.drivenAt sources.independentOf stamping.baseOf stamping.completed stamping.linearOf stamping.stampOf capacitor.companionOf vpwl.lastOf vpwl.between vpwl.orZero vpwl.levelOn vpwl.levelAt vpwl.patternAt solve.indexOfNextAbs solve.swapped solve.lessScaled solve.reduced solve.cleared solve.column solve.eliminated solve.dot solve.unknown solve.lastUnknown solve.substituted solve.solution convergence.limit convergence.place convergence.checked convergence.convergenceOf control.waited control.dcOver control.dcAfter control.moved control.eased control.shortened control.stepAfter counters.next counters.verdictOf counters.dcVerdictOf machine.compared machine.tried machine.writtenBy machine.landed machine.dcPass machine.stepPass machine.pass machine.runFor attempt.attemptOf begin.forgotten engine.runOf engine.endingOf engine.refusedOf work.endOf exact.units judge.total judge.residual judge.named judge.judgeRefusal judge.judgeOf Ieee.ofBits Ieee.toBits Ieee.add Ieee.sub Ieee.mul Ieee.div Ieee.rem Ieee.lt Ieee.le Ieee.eq Ieee.isNan
 answers = refl

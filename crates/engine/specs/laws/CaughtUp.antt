@@ -1,9 +1,9 @@
 -- What the option `catchup` promises. With it on, no diode is behind where a DC run has settled or a transient has come to its end, nor in the vector of any accepted step. A DC run that settles with it on never takes
 -- fewer passes than with it off; in as many it has the same bits. With it off nothing of this holds: `cases` computes such a run.
--- Clients cite caught-up, accepted-caught-up, withSwitch, never-fewer, settles-too and same-bits. Assumes nothing.
+-- Clients cite caught-up, answer-caught-up, accepted-caught-up, withSwitch, never-fewer, settles-too and same-bits. Assumes nothing.
 use Prim.Native.Nat.{ℕ, _+_, _<_, _≤_}
 use mathlib.Core.Path.{_≡_, refl, sym, ap, subst, _∙_}
-use mathlib.Core.Bool.{Bool, true, false, cond}
+use mathlib.Core.Bool.{Bool, true, false, cond, true≢false}
 use mathlib.Core.Logic.{inl}
 use mathlib.Core.List.{List}
 use native.Mathlib.Omega.{arith}
@@ -11,10 +11,11 @@ use lib.Dec.{eqb}
 use lib.ListN.{take}
 use lib.Ieee.{Float}
 use Rattle.numbers.specs.Verdicts.{settled, budgetSpent}
+use Rattle.options.specs.declared.Options.{Options}
 use Rattle.options.specs.Switch.{on}
 use Rattle.sheet.specs.declared.Checked.{Checked}
 use Rattle.sheet.specs.declared.Checked.the-variants.{Clean, Faulty}
-use Rattle.checks.specs.Checks.{records, badCounts, sizesRefusal, checkedOf}
+use Rattle.checks.specs.Checks.{order, records, badCounts, sizesRefusal, checkedOf}
 use Rattle.checks.specs.laws.Checks.{fine, clean-fine}
 use Rattle.behind.specs.Behind.{behindNumber}
 use Rattle.steps.specs.declared.Counters.{Counters}
@@ -89,3 +90,102 @@ withSwitch w c =
       elimination = c .elimination;
       lent = c .lent;
     }
+
+-- what is over with 0
+over-settled : (c : Counters) → verdictOf c ≡ settled → (going c ≡ false) × (c .verdict ≡ settled)
+unfolding verdictOf
+over-settled c e = go (going c) refl e
+  where
+    go : (b : Bool) → going c ≡ b → cond b budgetSpent (c .verdict) ≡ settled → (going c ≡ false) × (c .verdict ≡ settled)
+    go true g q = absurd (omega arith)
+    go false g q = (g, q)
+
+settled-over : (c : Counters) → going c ≡ false → c .verdict ≡ settled → verdictOf c ≡ settled
+unfolding verdictOf
+settled-over c g e = rw g e
+
+-- two runs of which the first is the same as the second or ahead of it
+module _ (a b : State) where
+  not-more : Pair a b → b .counters .passes ≤ a .counters .passes
+  not-more (same e) = subst (λ (s : State). s .counters .passes ≤ a .counters .passes) e (omega arith)
+  not-more (apart p) = p .fewer
+
+  both-settle : Pair a b → verdictOf (a .counters) ≡ settled → verdictOf (b .counters) ≡ settled
+  both-settle (same e) v = subst (λ (s : State). verdictOf (s .counters) ≡ settled) e v
+  both-settle (apart p) v = settled-over (b .counters) (p .over) (p .settles)
+
+  as-many : Pair a b → verdictOf (a .counters) ≡ settled → a .counters .passes ≡ b .counters .passes → a ≡ b
+  as-many (same e) v q = e
+  as-many (apart p) v q = absurd (let o = over-settled (a .counters) v in omega (arith, p .later (o .0) (o .1)))
+
+paired : (f : Attempt) (o : Options) (nodes w : ℕ) (t : Bool) → t ≡ false → (n : ℕ) (s : State) → s .counters .phase ≡ dcPhase → s .counters .passes + n ≤ top
+    → Pair (runFor f (record { options = withCatchup w o; nodes = nodes; transient = t }) n s) (runFor f (record { options = withCatchup 0 o; nodes = nodes; transient = t }) n s)
+paired f o nodes w true e n s h l = absurd (true≢false e)
+paired f o nodes w false e n s h l = pairs f o nodes w n s h l
+
+module _ (c : Call) (dc : c .job .transient ≡ false) (w : ℕ) where
+  -- the call with the switch at w, and without it
+  abbrev with-it : Call
+  with-it = withSwitch w c
+
+  abbrev without : Call
+  without = withSwitch 0 c
+
+  -- both are refused alike
+  same-check : (v : ℕ) → checkedCall (withSwitch v c) ≡ checkedCall without
+  unfolding checkedOf sizesRefusal badCounts
+  same-check v = refl
+
+  -- both begin alike, and stamp and solve alike
+  abbrev start : State
+  start = startOf (circuit without) (take (records (sizes c)) (c .lent .memory)) (c .lent .rows)
+
+  ends-as : (v : ℕ) → lastOf (withSwitch v c) ≡ runFor (attemptOf (circuit without)) (withSwitch v c .job) (c .job .options .budget) start
+  unfolding endOf
+  ends-as v =
+      ap (λ (f : Attempt). runFor f (withSwitch v c .job) (c .job .options .budget) start)
+      (attempts-same (c .job .options) v 0 (c .job .nodes) (order (sizes c)) (c .job .transient) (c .sheet) (c .points))
+
+  two : checkedCall without ≡ Clean → Pair (lastOf with-it) (lastOf without)
+  two clean =
+      let small : 0 + c .job .options .budget ≤ top = omega (arith, fine (without .job .options) (sizes without) (clean-fine (without .job .options) (sizes without) (c .sheet) clean .0) .spent) in
+      subst (λ (s : State). Pair s (lastOf without)) (sym (ends-as w))
+      (subst (Pair (runFor (attemptOf (circuit without)) (with-it .job) (c .job .options .budget) start)) (sym (ends-as 0))
+      (paired (attemptOf (circuit without)) (c .job .options) (c .job .nodes) w (c .job .transient) dc (c .job .options .budget) start refl small))
+
+  -- a DC run never takes fewer passes with the option on than with it off
+  pub never-fewer : numbersOf (runOf without .outcome) .passes ≤ numbersOf (runOf with-it .outcome) .passes
+  never-fewer = by-check (checkedCall without) refl
+    where
+      by-check : (x : Checked) → checkedCall without ≡ x → numbersOf (runOf without .outcome) .passes ≤ numbersOf (runOf with-it .outcome) .passes
+      by-check Clean q = rw (ended-numbers without q, ended-numbers with-it (same-check w ∙ q)) (not-more (lastOf with-it) (lastOf without) (two q))
+      by-check (Faulty k i) q = rw (refused-numbers without k i q, refused-numbers with-it k i (same-check w ∙ q)) (omega arith)
+
+  -- where it settles with the option on, it does with it off
+  pub settles-too : numbersOf (runOf with-it .outcome) .verdict ≡ settled → numbersOf (runOf without .outcome) .verdict ≡ settled
+  settles-too e = by-check (checkedCall without) refl
+    where
+      by-check : (x : Checked) → checkedCall without ≡ x → numbersOf (runOf without .outcome) .verdict ≡ settled
+      by-check Clean q = rw (ended-numbers without q) (both-settle (lastOf with-it) (lastOf without) (two q) (rw (ended-numbers with-it (same-check w ∙ q)) at e))
+      by-check (Faulty k i) q = rw (refused-numbers without k i q)
+
+  -- the results of one end
+  one-end : lastOf with-it ≡ lastOf without → runOf with-it ≡ runOf without
+  unfolding runOf behindNumber checkedOf sizesRefusal badCounts
+  one-end e =
+      ap (λ (t : State). unless (checkedCall without) (resultOf (endingOf (t .counters) (behindIn (without .job .options) (c .sheet) (t .buffers))) (laid (sizes c) (t .buffers) (c .lent))) (resultOf (refusedOf (checkedCall without)) (c .lent))) e
+
+  refused-same : (k i : ℕ) → checkedCall without ≡ Faulty k i → runOf with-it ≡ runOf without
+  unfolding runOf
+  refused-same k i q = rw (same-check w ∙ q, q)
+
+  -- a DC run that settles with the option on in as many passes as with it off has the same bits: the same answer, and the same in every lent buffer
+  pub same-bits : numbersOf (runOf with-it .outcome) .verdict ≡ settled → numbersOf (runOf with-it .outcome) .passes ≡ numbersOf (runOf without .outcome) .passes → runOf with-it ≡ runOf without
+  same-bits e n = by-check (checkedCall without) refl
+    where
+      by-check : (x : Checked) → checkedCall without ≡ x → runOf with-it ≡ runOf without
+      by-check Clean q =
+          let u = ended-numbers with-it (same-check w ∙ q) in
+          let v = ended-numbers without q in
+          one-end (as-many (lastOf with-it) (lastOf without) (two q) (rw u at e) (rw (u, v) at n))
+      by-check (Faulty k i) q = refused-same k i q

@@ -17,7 +17,7 @@ use Rattle.groups.specs.declared.Pass.{Pass}
 use Rattle.groups.specs.Records.{elementAt, onRecord}
 use Rattle.groups.specs.Diodes.{Stamped, stampedOf, biased, biasedAt, diodesOf}
 use Rattle.groups.specs.Stamping.{linearOf, stampOf}
-use Rattle.behind.specs.Behind.{firstBehind, behindNumber}
+use Rattle.behind.specs.Behind.{behindNumber}
 use Rattle.steps.specs.declared.Counters.{Counters}
 use Rattle.steps.specs.laws.Switched.{withCatchup}
 use Rattle.machine.specs.State.{Buffers, Attempted}
@@ -69,7 +69,7 @@ module _ (o : Options) (w v : ℕ) where
   -- ---- diodes as they are asked
 
   pub behind-same : (sheet : List ℕ) (x memory : List Float) → behindNumber here sheet x memory ≡ behindNumber there sheet x memory
-  unfolding behindNumber firstBehind
+  unfolding behindNumber
   behind-same sheet x memory = refl
 
   -- ---- the attempt

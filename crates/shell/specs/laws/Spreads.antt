@@ -1,4 +1,4 @@
--- A whole call of spreads and the status: it counts as sound exactly where it is not refused and every one of its jobs settled. Clients cite AllSettled, spreads-sound, spreads-sound-only, spreads-refused, spreads-strict and spreads-alone. Assumes nothing.
+-- A whole call of spreads and the status: it counts as sound exactly where it is not refused and every one of its jobs is sound. Clients cite AllSound, spreads-sound, spreads-sound-only, spreads-refused, spreads-strict and spreads-alone. Assumes nothing.
 use Prim.Native.Nat.{ℕ, zero, suc, _+_, _<_}
 use mathlib.Core.Path.{_≡_, refl, sym, ap, _∙_}
 use mathlib.Core.Bool.{Bool, true, false, cond}
@@ -7,14 +7,13 @@ use native.Mathlib.Omega.{arith}
 use borrow.Author.Tests.{eqb-true, eq-eqb, ltb-true, ltb-false, not-false}
 use lib.Dec.{eqb, ltb}
 use lib.ListN.{getD}
-use Rattle.numbers.specs.Verdicts.{settled}
-use Rattle.tally.specs.declared.Report.{Report}
 use Rattle.tally.specs.Tally.{numberIn, howMany}
 use Rattle.tally.specs.laws.Tally.{many-most}
-use Rattle.spreads.specs.declared.Spread.{Spread}
-use Rattle.spreads.specs.declared.Spread.the-variants.{Refused, Done}
-use Rattle.spreads.specs.Spreads.{Batch, Results, batchResultOf, spreadsOf}
-use Rattle.spreads.specs.laws.Promises.{OfReport, Kept, every-call, of-call}
+use Rattle.sound.specs.declared.reports.Reports.{Reports}
+use Rattle.sound.specs.declared.Soundings.{Soundings}
+use Rattle.sound.specs.declared.Soundings.the-variants.{Refused, Done}
+use Rattle.sound.specs.Sound.{Call, Results, soundResultOf, soundOf}
+use Rattle.sound.specs.laws.Promises.{SoundJob, OfReports, Kept, every-call, of-call}
 use Rattle.shell.specs.declared.seen.Seen.{Seen}
 use Rattle.shell.specs.Seen.{soundSeen, allSeen, spreadsSeen, statusOf}
 use Rattle.shell.specs.laws.Each.{each-here}
@@ -43,43 +42,45 @@ module _ (f : ℕ → ℕ) (k : ℕ) where
 
 -- ---- a call
 
--- the call was done, with this report, and each job's number is 0
-pub record AllSettled (c : Batch) (r : Spread) (x : Results) : Type 0 where
-  pub report : Report
-  pub done : r ≡ Done report
-  pub «all» : (j : ℕ) → j < c .jobs → getD (x .numbers) j 0 ≡ settled
+-- the call was done, with these reports; each job's cause is 0, and each is sound: its run settled on a finite vector, no diode is behind, and where there are tolerances the judge accepts it
+pub record AllSound (c : Call) (r : Soundings) (x : Results) : Type 0 where
+  pub reports : Reports
+  pub done : r ≡ Done reports
+  pub causes : (j : ℕ) → j < c .jobs → getD (x .causes) j 0 ≡ 0
+  pub «all» : (j : ℕ) → j < c .jobs → SoundJob c x j
 
 -- of an answer and buffers that keep what every call keeps
-sound-kept : (c : Batch) (r : Spread) (x : Results) → Kept c r x → spreadsSeen r (c .jobs) ≡ soundSeen → AllSettled c r x
+sound-kept : (c : Call) (r : Soundings) (x : Results) → Kept c r x → spreadsSeen r (c .jobs) ≡ soundSeen → AllSound c r x
 sound-kept c (Refused k) x h e = let d : true ≡ false = ap (λ (s : Seen). s .fault) e in let z : _≡_ {A = ℕ} 0 1 = cc in absurd (omega arith)
 sound-kept c (Done r) x h e =
-    let n : r .settled ≡ c .jobs = eqb-true _ _ (not-false _ (ap (λ (s : Seen). s .doubtful) e)) in
-    let m : howMany (numberIn (x .numbers)) (c .jobs) settled ≡ c .jobs = sym (h .«settled-counted» ∙ h .count settled (omega arith)) ∙ n in
-    record { report = r; done = refl; «all» = many-all (numberIn (x .numbers)) settled (c .jobs) m }
+    let n : r .sound .settled ≡ c .jobs = eqb-true _ _ (not-false _ (ap (λ (s : Seen). s .doubtful) e)) in
+    let m : howMany (numberIn (x .causes)) (c .jobs) 0 ≡ c .jobs = sym (h .«sound-counted» ∙ h .count 0 (omega arith)) ∙ n in
+    let z = many-all (numberIn (x .causes)) 0 (c .jobs) m in
+    record { reports = r; done = refl; causes = z; «all» = λ j l. h .job j l .sound (z j l) }
 
-kept-sound : (c : Batch) (r : Report) (x : Results) → OfReport c r x → ((j : ℕ) → j < c .jobs → getD (x .numbers) j 0 ≡ settled) → spreadsSeen (Done r) (c .jobs) ≡ soundSeen
+kept-sound : (c : Call) (r : Reports) (x : Results) → OfReports c r x → ((j : ℕ) → j < c .jobs → getD (x .causes) j 0 ≡ 0) → spreadsSeen (Done r) (c .jobs) ≡ soundSeen
 kept-sound c r x h every =
-    let n : r .settled ≡ c .jobs = h .«settled-counted» ∙ h .count settled (omega arith) ∙ all-many (numberIn (x .numbers)) settled (c .jobs) every in
+    let n : r .sound .settled ≡ c .jobs = h .«sound-counted» ∙ h .count 0 (omega arith) ∙ all-many (numberIn (x .causes)) 0 (c .jobs) every in
     rw (eq-eqb _ _ n)
 
--- A call of spreads that is done and whose jobs all settled is sound,
-pub spreads-sound : (c : Batch) (r : Report) → spreadsOf c .answer ≡ Done r → ((j : ℕ) → j < c .jobs → getD (spreadsOf c .results .numbers) j 0 ≡ settled) → spreadsSeen (spreadsOf c .answer) (c .jobs) ≡ soundSeen
-spreads-sound c r e every = rw e (kept-sound c r (spreadsOf c .results) (rw e at (every-call c)) every)
+-- A call of spreads that is done and whose jobs are all sound is sound,
+pub spreads-sound : (c : Call) (r : Reports) → soundOf c .answer ≡ Done r → ((j : ℕ) → j < c .jobs → getD (soundOf c .results .causes) j 0 ≡ 0) → spreadsSeen (soundOf c .answer) (c .jobs) ≡ soundSeen
+spreads-sound c r e every = rw e (kept-sound c r (soundOf c .results) (rw e at (every-call c)) every)
 
 -- and no other is.
-pub spreads-sound-only : (c : Batch) → spreadsSeen (spreadsOf c .answer) (c .jobs) ≡ soundSeen → AllSettled c (spreadsOf c .answer) (spreadsOf c .results)
-spreads-sound-only c e = sound-kept c (spreadsOf c .answer) (spreadsOf c .results) (every-call c) e
+pub spreads-sound-only : (c : Call) → spreadsSeen (soundOf c .answer) (c .jobs) ≡ soundSeen → AllSound c (soundOf c .answer) (soundOf c .results)
+spreads-sound-only c e = sound-kept c (soundOf c .answer) (soundOf c .results) (every-call c) e
 
 -- A call that is refused as a whole is status 2, with `--strict` or without, whatever else ran.
 pub spreads-refused : (strict : Bool) (before behind : List Seen) (k jobs : ℕ) → statusOf strict (allSeen (before ++ spreadsSeen (Refused k) jobs ∷ behind)) ≡ 2
 spreads-refused strict before behind k jobs = fault-anywhere strict before behind (spreadsSeen (Refused k) jobs) refl
 
--- With `--strict` status 0 means of each call of spreads among all that ran that each of its jobs settled. The answer and the buffers are those that the contract of `spreads` gives.
-pub spreads-strict : (before behind : List Seen) (c : Batch) (r : Spread) (x : Results) → batchResultOf r x ≡ spreadsOf c → statusOf true (allSeen (before ++ spreadsSeen r (c .jobs) ∷ behind)) ≡ 0 → AllSettled c r x
+-- With `--strict` status 0 means of each call of spreads among all that ran that each of its jobs is sound. The answer and the buffers are those that the contract of `sound_spreads` gives.
+pub spreads-strict : (before behind : List Seen) (c : Call) (r : Soundings) (x : Results) → soundResultOf r x ≡ soundOf c → statusOf true (allSeen (before ++ spreadsSeen r (c .jobs) ∷ behind)) ≡ 0 → AllSound c r x
 spreads-strict before behind c r x e z =
     sound-kept c r x (of-call c r x e)
     (each-here (λ (s : Seen). s ≡ soundSeen) before behind (spreadsSeen r (c .jobs)) (strict-zero (before ++ spreadsSeen r (c .jobs) ∷ behind) z))
 
--- With `--strict`, status 0 of a call of one file of spreads means that each of its jobs settled.
-pub spreads-alone : (c : Batch) (r : Spread) (x : Results) → batchResultOf r x ≡ spreadsOf c → statusOf true (allSeen (spreadsSeen r (c .jobs) ∷ [])) ≡ 0 → (j : ℕ) → j < c .jobs → getD (x .numbers) j 0 ≡ settled
+-- With `--strict`, status 0 of a call of one file of spreads means that each of its jobs is sound.
+pub spreads-alone : (c : Call) (r : Soundings) (x : Results) → soundResultOf r x ≡ soundOf c → statusOf true (allSeen (spreadsSeen r (c .jobs) ∷ [])) ≡ 0 → (j : ℕ) → j < c .jobs → SoundJob c x j
 spreads-alone c r x e z = spreads-strict [] [] c r x e z .«all»

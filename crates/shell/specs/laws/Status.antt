@@ -1,4 +1,4 @@
--- The status, as a script's author relies on it: what each status means of all that was seen in a call, and what a run must be to count as sound. Clients cite status-range, inTurn, in-turn, zero-no-fault, no-fault-zero, strict-zero, strict-zero-only, never-one, fault-anywhere, doubt-anywhere, Settled, job-sound, job-sound-only, job-strict, judged-sound, judged-sound-only and judged-strict. Assumes nothing.
+-- The status, as a script's author relies on it: what each status means of all that was seen in a call, and what a run must be to count as sound. Clients cite status-range, inTurn, in-turn, zero-no-fault, no-fault-zero, strict-zero, strict-zero-only, never-one, fault-anywhere, doubt-anywhere, Sound, job-sound, job-sound-only, job-strict, judged-sound, judged-sound-only and judged-strict. Assumes nothing.
 use Prim.Native.Nat.{ℕ}
 use mathlib.Core.Path.{_≡_, refl, ap, _∙_}
 use mathlib.Core.Bool.{Bool, true, false, cond, not, _&&_, _||_}
@@ -138,26 +138,29 @@ doubt-anywhere before behind s e f = rw (faults-none (before ++ s ∷ behind) f,
 
 -- ---- a run by itself
 
--- it ran, and settled, with the DC run before it
-pub record Settled (o : Outcome) : Type 0 where
+-- it ran, and settled, with the DC run before it, and no diode is behind in its last vector
+pub record Sound (o : Outcome) : Type 0 where
   pub ending : Ending
   pub ended : o ≡ Run.Ended ending
   pub verdict : ending .verdict ≡ settled
   pub dc : ending .dc ≡ settled
+  pub behind : ending .behind ≡ 0
 
--- A run that ended with verdict 0 and DC verdict 0 is sound,
-pub job-sound : (e : Ending) → e .verdict ≡ settled → e .dc ≡ settled → jobSeen (Run.Ended e) ≡ soundSeen
-job-sound e p q = rw (p, q)
+-- A run that ended with verdict 0 and DC verdict 0, with no diode behind, is sound,
+pub job-sound : (e : Ending) → e .verdict ≡ settled → e .dc ≡ settled → e .behind ≡ 0 → jobSeen (Run.Ended e) ≡ soundSeen
+job-sound e p q r = rw (p, q, r)
 
 -- and no other is.
-pub job-sound-only : (o : Outcome) → jobSeen o ≡ soundSeen → Settled o
+pub job-sound-only : (o : Outcome) → jobSeen o ≡ soundSeen → Sound o
 job-sound-only (Run.Refused k i) e = let d : true ≡ false = ap (λ (s : Seen). s .doubtful) e in let z : _≡_ {A = ℕ} 0 1 = cc in absurd (omega arith)
 job-sound-only (Run.Ended r) e =
-    let p = or-false (not (eqb (r .verdict) settled)) (not (eqb (r .dc) settled)) (ap (λ (s : Seen). s .doubtful) e) in
-    record { ending = r; ended = refl; verdict = eqb-true _ _ (not-false _ (p .0)); dc = eqb-true _ _ (not-false _ (p .1)) }
+    let a = not (eqb (r .verdict) settled) || not (eqb (r .dc) settled) in
+    let p = or-false a (not (eqb (r .behind) 0)) (ap (λ (s : Seen). s .doubtful) e) in
+    let q = or-false (not (eqb (r .verdict) settled)) (not (eqb (r .dc) settled)) (p .0) in
+    record { ending = r; ended = refl; verdict = eqb-true _ _ (not-false _ (q .0)); dc = eqb-true _ _ (not-false _ (q .1)); behind = eqb-true _ _ (not-false _ (p .1)) }
 
--- With `--strict` status 0 means of each run in the call that it ended with verdict 0 and DC verdict 0.
-pub job-strict : (before behind : List Seen) (o : Outcome) → statusOf true (allSeen (before ++ jobSeen o ∷ behind)) ≡ 0 → Settled o
+-- With `--strict` status 0 means of each run in the call that it ended with verdict 0 and DC verdict 0, and that no diode is behind.
+pub job-strict : (before behind : List Seen) (o : Outcome) → statusOf true (allSeen (before ++ jobSeen o ∷ behind)) ≡ 0 → Sound o
 job-strict before behind o e = job-sound-only o (each-here (λ (s : Seen). s ≡ soundSeen) before behind (jobSeen o) (strict-zero (before ++ jobSeen o ∷ behind) e))
 
 -- ---- what the judge says

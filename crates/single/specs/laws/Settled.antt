@@ -1,11 +1,10 @@
 -- A settled DC run has a finite vector: the last pass that says "yes" has looked at every unknown, and no later pass writes. Clients cite AllFinite and alone-finite. Assumes nothing.
 use Prim.Native.Nat.{ℕ, zero, suc, _<_, _≤_}
 use mathlib.Core.Path.{_≡_, refl, sym, ap, subst}
-use mathlib.Core.Bool.{Bool, true, false, cond, false≢true}
-use mathlib.Core.Logic.{_⊎_, inl, inr, ⊎-elim}
+use mathlib.Core.Bool.{Bool, true, false, cond}
+use mathlib.Core.Logic.{_⊎_, inl, ⊎-elim}
 use mathlib.Core.List.{List}
 use native.Mathlib.Omega.{arith}
-use borrow.Author.Tests.{eq-eqb}
 use lib.Count.{trailingZeros}
 use lib.Dec.{T, eqb, ltb}
 use lib.ListN.{length, getD, take, drop, length-replicate, getD-replicate, List·getD-append}
@@ -20,18 +19,16 @@ use Rattle.convergence.specs.declared.Convergence.{Convergence}
 use Rattle.convergence.specs.declared.Convergence.the-variants as check
 use Rattle.convergence.specs.Convergence.{numberOf, limit, place, placeAt, checked, convergenceOf}
 use Rattle.checks.specs.Checks.{order, records}
-use Rattle.steps.specs.declared.Counters.{Counters}
 use Rattle.steps.specs.declared.Report.{Report}
 use Rattle.steps.specs.declared.Report.the-variants.{Yes, No, Error, Diode, Sine}
-use Rattle.numbers.specs.Verdicts.{settled, passesUsed, diodeCurrent}
-use Rattle.steps.specs.Phases.{transientPhase}
-use Rattle.steps.specs.Counters.{top, counted, going, verdictOf}
-use Rattle.steps.specs.Control.{reportOf, failed, dcOver, dcAfter}
+use Rattle.numbers.specs.Verdicts.{settled, diodeCurrent}
+use Rattle.steps.specs.Counters.{top, verdictOf}
+use Rattle.steps.specs.Control.{reportOf}
 use Rattle.steps.specs.laws.Waited.{waited-yes}
 use Rattle.steps.specs.declared.Job.{Job}
-use Rattle.machine.specs.State.{State, Attempt, writtenOf}
-use Rattle.machine.specs.Machine.{before, compared, tried, triedBy, writtenBy, dcPass, pass, runFor}
-use Rattle.machine.specs.laws.Budget.{pass-stopped}
+use Rattle.machine.specs.State.{State, Attempt}
+use Rattle.machine.specs.Machine.{before, compared, tried, triedBy}
+use Rattle.machine.specs.laws.Settles.{ends-with-yes}
 use Rattle.passes.specs.Attempt.{attemptOf}
 use Rattle.engine.specs.Work.{startOf, endOf}
 use Rattle.engine.specs.Engine.{Call, sizes, circuit, lastOf}
@@ -90,70 +87,13 @@ module _ (f : Attempt) (j : Job) (s : State) where
       yes-finite (a .vector) (before (s .counters .first) (s .buffers .vector)) (j .nodes) (j .options)
       (yes-check _ (yes-reported (eqb (a .fault) 0) (eqb (a .fault) diodeCurrent) _ (waited-yes (j .options) (a .behind) _ e)))
 
--- ---- the run
-
--- DC is still going, or it is over, and if it settled the vector is finite
-abbrev Over : Counters → List Float → Type 0
-Over c v = (c .phase ≡ 0) ⊎ ((going c ≡ false) × (c .verdict ≡ 0 → AllFinite v))
-
-abbrev Settles : State → Type 0
-Settles s = Over (s .counters) (s .buffers .vector)
-
--- the control after a DC pass
-controlled : (o : Options) (r : Report) (c : Counters) (v : List Float) → c .phase ≡ 0 → (r ≡ Yes → AllFinite v) → Over (dcAfter o false r c) v × (eqb (dcAfter o false r c .phase) transientPhase ≡ false)
-unfolding dcAfter dcOver
-controlled o Yes c v h g = (inr (refl, λ e. g refl), refl)
-controlled o No c v h g = go (ltb (o .itl1) (counted c .count))
-  where
-    go : (b : Bool) → Over (cond b (failed passesUsed (counted c)) (counted c)) v × (eqb (cond b (failed passesUsed (counted c)) (counted c) .phase) transientPhase ≡ false)
-    go true = (inr (refl, λ e. absurd (omega arith)), refl)
-    go false = (inl h, rw h)
-controlled o Error c v h g = (inr (refl, λ e. absurd (omega arith)), refl)
-controlled o Diode c v h g = (inr (refl, λ e. absurd (omega arith)), refl)
-controlled o Sine c v h g = (inr (refl, λ e. absurd (omega arith)), refl)
-
--- and after its row, which no DC run has
-unwritten : (o : Options) (tr : Bool) (r : Report) (c : Counters) (v rows : List Float) → tr ≡ false → c .phase ≡ 0 → (r ≡ Yes → AllFinite v)
-    → Over (cond (eqb (dcAfter o tr r c .phase) transientPhase) (writtenBy (dcAfter o tr r c) v rows) (writtenOf (dcAfter o tr r c) rows) .counters) v
-unwritten o true r c v rows d h g = absurd (false≢true (sym d))
-unwritten o false r c v rows d h g =
-    let k = controlled o r c v h g in
-    rw (k .1) (k .0)
-
-module _ (f : Attempt) (j : Job) (d : j .transient ≡ false) where
-  dc-settles : (s : State) → s .counters .phase ≡ 0 → Settles (dcPass f j s)
-  unfolding dcPass
-  dc-settles s h = unwritten (j .options) (j .transient) (triedBy f j s .report) (s .counters) (triedBy f j s .vector) (s .buffers .rows) d h (tried-finite f j s)
-
-  pass-settles : (s : State) → Settles s → Settles (pass f j s)
-  unfolding pass
-  pass-settles s p =
-      ⊎-elim
-      (λ (h : s .counters .phase ≡ 0). rw (eq-eqb (s .counters .phase) 0 h) (dc-settles s h))
-      (λ (h : (going (s .counters) ≡ false) × (s .counters .verdict ≡ 0 → AllFinite (s .buffers .vector))). subst Settles (sym (pass-stopped f j s (h .0))) p)
-      p
-
-  run-settles : (n : ℕ) (s : State) → Settles s → Settles (runFor f j n s)
-  unfolding runFor
-  run-settles zero s p = p
-  run-settles (suc n) s p = run-settles n (pass f j s) (pass-settles s p)
-
--- a run that is over with 0
-over-finite : (c : Counters) (v : List Float) → Over c v → verdictOf c ≡ 0 → AllFinite v
-unfolding verdictOf
-over-finite c v p e =
-    ⊎-elim
-    (λ (h : c .phase ≡ 0). absurd (let z : _≡_ {A = ℕ} 24 0 = rw h at e in omega arith))
-    (λ (h : (going c ≡ false) × (c .verdict ≡ 0 → AllFinite v)). h .1 (rw (h .0) at e))
-    p
-
 -- ---- a job
 
-last-finite : (c : Call) → c .job .transient ≡ false → verdictOf (lastOf c .counters) ≡ 0 → AllFinite (lastOf c .buffers .vector)
+last-finite : (c : Call) → verdictOf (lastOf c .counters) ≡ 0 → AllFinite (lastOf c .buffers .vector)
 unfolding endOf
-last-finite c d e =
-    over-finite (lastOf c .counters) (lastOf c .buffers .vector)
-    (run-settles (attemptOf (circuit c)) (c .job) d (c .job .options .budget) (startOf (circuit c) (take (records (sizes c)) (c .lent .memory)) (c .lent .rows)) (inl refl)) e
+last-finite c e =
+    ends-with-yes (λ (v m : List Float). AllFinite v) (attemptOf (circuit c)) (c .job) (tried-finite (attemptOf (circuit c)) (c .job))
+    (c .job .options .budget) (startOf (circuit c) (take (records (sizes c)) (c .lent .memory)) (c .lent .rows)) (inl refl) e
 
 finite-nought : T (finite nought)
 unfolding ofBits ofFields odd trailingZeros
@@ -167,5 +107,5 @@ alone-finite c u d few h l =
     (λ q e.
     let x = last c .buffers .vector in
     let m : u < length x = omega (arith, rows-stand (fresh c) (rw (length-replicate (length (c .lent .rows)) nought) few) .long) in
-    rw (List·getD-append x (drop (order (sizes c)) (zerosLike (c .lent .vector))) nan u m) (last-finite (fresh c) d e u m))
+    rw (List·getD-append x (drop (order (sizes c)) (zerosLike (c .lent .vector))) nan u m) (last-finite (fresh c) e u m))
     (λ k i q e. rw (getD-replicate (length (c .lent .vector)) u nought nan (omega (arith, h))) finite-nought)

@@ -7,7 +7,7 @@ returns : tie.Need-returns
 returns c = rw (c .before .before .outcome .given .1) (c .doubted .ensures)
 
 returns-2 : tie.Need-returns-2
-returns-2 c = rw (c .before .before .before .before .outcome2 .given .1) (c .doubted2 .ensures)
+returns-2 c = rw (c .before .before .before .before .before .outcome2 .given .1) (c .doubted2 .ensures)
 
 pub job-seen-spec : {M : Type 1} → statement M
 job-seen-spec =

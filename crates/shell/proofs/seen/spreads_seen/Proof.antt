@@ -4,7 +4,7 @@ use Rattle.shell.proofs.seen.spreads_seen.Statement.{statement}
 use Rattle.shell.proofs.seen.spreads_seen.Tie as tie
 
 returns-2 : tie.Need-returns-2
-returns-2 c = rw (c .before .before .before .answer2 .given .1) (c .doubted .ensures)
+returns-2 c = rw (c .before .before .before .before .answer2 .given .1) (c .doubted .ensures)
 
 pub spreads-seen-spec : {M : Type 1} → statement M
 spreads-seen-spec =

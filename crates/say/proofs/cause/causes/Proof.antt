@@ -1,16 +1,16 @@
 use Prim.Native.Nat.{_≤_, _-_}
 use borrow.Author.Needs.{needs}
-use Rattle.say.proofs.spread.counts.Statement.{statement}
-use Rattle.say.proofs.spread.counts.Tie as tie
+use Rattle.say.proofs.cause.causes.Statement.{statement}
+use Rattle.say.proofs.cause.causes.Tie as tie
 
 abbrev Inv-loop : tie.InvT-loop
-Inv-loop counts jobs q₀ k₀ q k = k ≤ 27
+Inv-loop counts judged q₀ k₀ q k = k ≤ 29
 
 abbrev μ-loop : tie.MeasureT-loop
-μ-loop counts jobs q₀ k₀ q k = 27 - k
+μ-loop counts judged q₀ k₀ q k = 29 - k
 
-pub counts-spec : {M : Type 1} → statement M
-counts-spec =
+pub causes-spec : {M : Type 1} → statement M
+causes-spec =
     tie.close
     (tie.spec
     Inv-loop
@@ -22,6 +22,4 @@ counts-spec =
     (λ c. search needs)
     (λ c. search needs)
     (λ c. search needs)
-    (λ c κs. search needs)
-    (λ c κs. search needs)
     (λ c. search needs))

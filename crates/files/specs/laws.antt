@@ -1,0 +1,2 @@
+-- What holds of the voltages that are told.
+pub mod Volts
