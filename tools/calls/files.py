@@ -297,6 +297,7 @@ def judged_calls(one, good):
     """Calls of spreads with tolerances, and with the option catchup: every cause, in the order in which they are asked."""
     source, held, low, broken = (b''.join(r) for r in (CONTRADICTION, rectifier(5.0), rectifier(0.1), rectifier(0.1)[:2] + [bytes(40)]))
     def sources(tolerances, **how): return judged_spreads(spreads(source, source, nodes=1, sources=1, unknown=0), tolerances, **how)
+    def ramps(): return spreads(*[resistor(1, 0, 1.0) + pattern(1, 0, 0, 0, 2, 0.0, -1.0)] * 2, nodes=2, sources=1, points=struct.pack('<4d', 0.0, 3.0, 1.0, 4.0))
     def diodes(*sheets): return spreads(*sheets, nodes=3, sources=1, unknown=2, itl=(100, 0, 10))
     yield one('spread-judged', '2 of 0', SURE, judged_spreads(spreads(good, good), [0.0, 0.0]))
     yield one('spread-not-judged', '2 of 0', SURE, judged_spreads(spreads(good, good), []))
@@ -304,6 +305,9 @@ def judged_calls(one, good):
     yield one('spread-rejected', '2 of 28', DOUBT, sources([0.0, 4.9]))
     yield one('spread-judge-11', '2 of 11', DOUBT, sources([0.0, -1.0]))
     yield one('spread-judge-nan', '2 of 11', DOUBT, sources([NAN, 5.0]))
+    # a level that is NaN is hidden by the last unknown's 0.0: settled, zeros; the judge refuses its system
+    yield one('spread-nan-level', '2 of 0', SURE, judged_spreads(ramps(), []))
+    yield one('spread-nan-level-judged', '2 of 11', DOUBT, judged_spreads(ramps(), [1e300] * 3))
     yield one('spread-judge-more', '2 of 0', SURE, sources([0.0, 5.0, -1.0]))
     yield one('spread-judge-most', '2 of 0', SURE, sources([0.0] + [5.0] * 63))
     yield one('spread-behind', '1 of 0; 2 of 27', DOUBT, diodes(held, low, held))
