@@ -66,10 +66,12 @@ enum savrunte_cause {
 /* ---- options and answers, all by value ---- */
 
 /* Any float bits are allowed. GMIN, BOLTZMANN and CHARGE of the Rust engine: 1e-12, 1.3806488e-23, 1.603e-19. catchup is 0 for off and
- * anything else for on: then a pass that would settle counts as one that did not while a diode is behind in the vector just solved. */
+ * anything else for on: then a pass that would settle counts as one that did not while a diode is behind in the vector just solved.
+ * pattern_first likewise: on, the level of every pattern (kind 7) is that of savrunte_pattern_first, at DC too, and not savrunte_pattern's.
+ * Words at the end of the struct that are cleared are options that are off. */
 typedef struct savrunte_options {
     double reltol, vntol, abstol, tstart, tstop, tstep, fs, ft, rmin, rmax, gmin, boltzmann, charge;
-    uint64_t itl1, itl3, itl4, budget, catchup;
+    uint64_t itl1, itl3, itl4, budget, catchup, pattern_first;
 } savrunte_options;
 
 /* A diode is behind when the voltage v across it in a vector is not within |v| RELTOL + VNTOL of its memory y, the voltage that its
@@ -244,6 +246,11 @@ savrunte_sin_answer savrunte_sin(double x);
 
 /* The level at time t of a pattern over all the points given (16-byte records: time, level). */
 double savrunte_pattern(const uint8_t *points, size_t points_len, double t_delay, double repeat, double t);
+
+/* The same where the option pattern_first is on. In this order: no points, or t < t_delay: 0; repeat < 0 and t >= t_delay + the last time:
+ * the last level; a single point: its level; a cycle time, fmod(t - t_delay, the last time), that is not above the first time: the first
+ * level; else what savrunte_pattern answers. */
+double savrunte_pattern_first(const uint8_t *points, size_t points_len, double t_delay, double repeat, double t);
 
 /* The companion model of a capacitor at voltage v over one step. */
 savrunte_companion savrunte_capacitor(double value, double v, double step);

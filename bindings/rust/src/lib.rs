@@ -269,6 +269,12 @@ pub fn pattern(points: &[u8], t_delay: f64, repeat: f64, t: f64) -> f64 {
     unsafe { raw::savrunte_pattern(points.as_ptr(), points.len(), t_delay, repeat, t) }
 }
 
+/// The same where the option `pattern_first` is on: up to the first point's own time that point's level, without repeat from the last
+/// point's time on the last level, before the delay 0.
+pub fn pattern_first(points: &[u8], t_delay: f64, repeat: f64, t: f64) -> f64 {
+    unsafe { raw::savrunte_pattern_first(points.as_ptr(), points.len(), t_delay, repeat, t) }
+}
+
 /// The companion model of a capacitor: conductance and current.
 pub fn capacitor(value: f64, v: f64, step: f64) -> (f64, f64) {
     let r = unsafe { raw::savrunte_capacitor(value, v, step) };

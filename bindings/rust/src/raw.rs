@@ -28,10 +28,12 @@ pub struct Options {
     pub budget: u64,
     /// 0 is off. Anything else is on: then a pass that would settle goes on as if it had not, while a diode is behind.
     pub catchup: u64,
+    /// 0 is off. Anything else is on: then a pattern has its first point's level at that point's own time, and its last level from the end on.
+    pub pattern_first: u64,
 }
 
 impl Options {
-    /// The bench's tolerances, the Rust engine's constants, a step of 1 up to time 2, the whole budget, and no waiting for diodes.
+    /// The bench's tolerances, the Rust engine's constants, a step of 1 up to time 2, the whole budget, and every switch off.
     pub fn bench() -> Options {
         Options {
             reltol: 0.001,
@@ -52,6 +54,7 @@ impl Options {
             itl4: 10,
             budget: 1_000_000,
             catchup: 0,
+            pattern_first: 0,
         }
     }
 }
@@ -195,6 +198,7 @@ extern "C" {
     pub fn savrunte_ln(x: f64) -> f64;
     pub fn savrunte_sin(x: f64) -> SinAnswer;
     pub fn savrunte_pattern(points: *const u8, points_len: usize, t_delay: f64, repeat: f64, t: f64) -> f64;
+    pub fn savrunte_pattern_first(points: *const u8, points_len: usize, t_delay: f64, repeat: f64, t: f64) -> f64;
     pub fn savrunte_capacitor(value: f64, v: f64, step: f64) -> Companion;
     pub fn savrunte_diode(i_sat: f64, tdegc: f64, v: f64, memory: f64, options: Options) -> DiodeAnswer;
 }

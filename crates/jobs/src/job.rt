@@ -96,6 +96,7 @@ pub fn options_of(head: &[u8]) -> Options {
         itl4: word(head, 20),
         budget: word(head, 21),
         catchup: word(head, 30),
+        pattern_first: word(head, 31),
     }
 }
 

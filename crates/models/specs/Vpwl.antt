@@ -1,8 +1,8 @@
--- The piecewise-linear source: "Pattern: `evaluate` exactly, float `%` included". Clients cite pointsFrom and patternAt.
+-- The piecewise-linear source: "Pattern: `evaluate` exactly, float `%` included"; and the rule in its place where the option `pattern_first` is on. Clients cite pointsFrom and patternOf.
 use Prim.Native.Nat.{ℕ, zero, suc, _+_, _*_}
-use mathlib.Core.Bool.{Bool, true, false, _&&_, cond}
+use mathlib.Core.Bool.{Bool, true, false, not, _&&_, cond}
 use mathlib.Core.List.{List, [], _∷_}
-use lib.Ieee.{Float, binary64, rem, lt, isNan}
+use lib.Ieee.{Float, binary64, rem, lt, le, isNan}
 use Rattle.num.specs.Le.{floatAt}
 use Rattle.num.specs.Floats.{nought}
 use Rattle.models.specs.Signs.{_⊕_, _⊖_, _⊗_, _⊘_}
@@ -58,3 +58,31 @@ levelAt ps l delay repeat t =
 unfoldable pub patternAt : List Point → Float → Float → Float → Float
 patternAt [] delay repeat t = nought
 patternAt (p ∷ ps) delay repeat t = levelAt (p ∷ ps) (lastOf p ps) delay repeat t
+
+-- ---- with the option `pattern_first`: "A pattern that starts away from zero"
+
+-- no point follows the first
+abbrev pub single : List Point → Bool
+single [] = true
+single (q ∷ qs) = false
+
+-- not repeating, and at or past the end of the pattern
+abbrev pub atEnd : Float → Float → Float → Bool
+atEnd repeat t end = lt repeat nought && le end t
+
+-- "no points, or a time before the delay: 0; without repeat and at or past its end: the last level; a single point: its level; a cycle time not above the first point's: the first level; then as before".
+-- A cycle time that is no number, as for a last time of 0.0, is not above anything.
+unfoldable pub patternFirst : List Point → Float → Float → Float → Float
+patternFirst [] delay repeat t = nought
+patternFirst (p ∷ ps) delay repeat t =
+    let l = lastOf p ps in
+    let tc = rem binary64 (t ⊖ delay) (l .time) in
+    cond (lt t delay) nought
+    (cond (atEnd repeat t (delay ⊕ l .time)) (l .level)
+    (cond (single ps) (p .level)
+    (cond (not (lt (p .time) tc)) (p .level)
+    (patternAt (p ∷ ps) delay repeat t))))
+
+-- the level of a pattern, by the option
+unfoldable pub patternOf : Bool → List Point → Float → Float → Float → Float
+patternOf on ps delay repeat t = cond on (patternFirst ps delay repeat t) (patternAt ps delay repeat t)

@@ -1,7 +1,7 @@
 // The piecewise-linear source. Its pattern is a part of the lent points: 16 bytes each, the time and then the level.
 ghost use mathlib.Core.Path.{_≡_};
 ghost use Prim.Native.Nat.{_+_};
-ghost use Rattle.models.specs.Vpwl.{pointAt, pointsFrom, patternAt, between, pastEnd, levelOn, orZero};
+ghost use Rattle.models.specs.Vpwl.{pointAt, pointsFrom, patternAt, between, pastEnd, levelOn, orZero, atEnd, patternFirst, patternOf};
 ghost use Rattle.num.specs.Floats.{nought};
 use num::f64_at;
 
@@ -112,4 +112,65 @@ fn point_at(points: &[u8], first: usize, i: usize) -> Point
         time: f64_at(points, at),
         level: f64_at(points, at + 8),
     }
+}
+
+// The level of a pattern at time t, by the option `pattern_first`.
+pub fn level(
+    pattern_first: bool,
+    points: &[u8],
+    first: usize,
+    count: usize,
+    t_delay: f64,
+    repeat: f64,
+    t: f64,
+) -> f64
+    ensures { λ r. ⌜ r ≡ patternOf «pattern_first» (pointsFrom (now (points .entry)) first count) «t_delay» repeat t ⌝ }
+{
+    if pattern_first {
+        return evaluate_first(points, first, count, t_delay, repeat, t);
+    }
+    evaluate(points, first, count, t_delay, repeat, t)
+}
+
+// The level at time t with the option on: the first level up to the first point's own time, the last one from the end on, and `evaluate` in between.
+pub fn evaluate_first(
+    points: &[u8],
+    first: usize,
+    count: usize,
+    t_delay: f64,
+    repeat: f64,
+    t: f64,
+) -> f64
+    ensures { λ r. ⌜ r ≡ patternFirst (pointsFrom (now (points .entry)) first count) «t_delay» repeat t ⌝ }
+{
+    if count == 0 {
+        return 0.0;
+    }
+    if t < t_delay {
+        return 0.0;
+    }
+    let last = point_at(points, first, count - 1);
+    if at_end(repeat, t, t_delay + last.time) {
+        return last.level;
+    }
+    let start = point_at(points, first, 0);
+    if count == 1 {
+        return start.level;
+    }
+    let t_cycle = (t - t_delay) % last.time;
+    // not `<=`: a cycle time that is no number has the first level too
+    if !(t_cycle > start.time) {
+        return start.level;
+    }
+    evaluate(points, first, count, t_delay, repeat, t)
+}
+
+// Whether a pattern that does not repeat has come to its end at time t.
+fn at_end(repeat: f64, t: f64, end: f64) -> bool
+    ensures { λ r. ⌜ r ≡ atEnd repeat t end ⌝ }
+{
+    if repeat < 0.0 {
+        return t >= end;
+    }
+    false
 }

@@ -151,6 +151,7 @@ fn options_of(gmin: f64, boltzmann: f64, charge: f64) -> Options {
         itl4: 0,
         budget: 1,
         catchup: 0,
+        pattern_first: 0,
     }
 }
 

@@ -27,4 +27,5 @@ bench itl1 =
       itl4 = 10;
       budget = 20;
       catchup = 0;
+      «pattern_first» = 0;
     }

@@ -15,7 +15,7 @@ ghost use Rattle.functions.specs.Sin.{sinOf};
 ghost use Rattle.mean.specs.Mean.{meanOf};
 ghost use Rattle.models.specs.Capacitor.{companionOf};
 ghost use Rattle.models.specs.Diode.{linearized};
-ghost use Rattle.models.specs.Vpwl.{patternAt, pointsFrom};
+ghost use Rattle.models.specs.Vpwl.{patternAt, patternFirst, pointsFrom};
 ghost use Rattle.judge.specs.Judge.{judgeOf};
 ghost use Rattle.solve.specs.Solve.{solveOf, solvedAs};
 ghost use Rattle.spreads.specs.Spreads.{resultsOf, scratchOf, batchOf, spreadsOf, ScratchKept};
@@ -400,6 +400,14 @@ pub extern "C" fn savrunte_pattern(points: &[u8], t_delay: f64, repeat: f64, t: 
 {
     let count = points.len() / 16;
     models::vpwl::evaluate(points, 0, count, t_delay, repeat, t)
+}
+
+#[no_mangle]
+pub extern "C" fn savrunte_pattern_first(points: &[u8], t_delay: f64, repeat: f64, t: f64) -> f64
+    ensures { λ r. ⌜ r ≡ patternFirst (pointsFrom (now (points .entry)) 0 (length (now (points .entry)) / 16)) «t_delay» repeat t ⌝ }
+{
+    let count = points.len() / 16;
+    models::vpwl::evaluate_first(points, 0, count, t_delay, repeat, t)
 }
 
 #[no_mangle]

@@ -67,6 +67,7 @@ tolerances w =
       itl4 = 0;
       budget = 1000;
       catchup = w;
+      «pattern_first» = 0;
     }
 
 -- a diode of 1e-12 A at 27 degrees

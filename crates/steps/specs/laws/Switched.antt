@@ -23,4 +23,5 @@ withCatchup w o =
       itl4 = o .itl4;
       budget = o .budget;
       catchup = w;
+      «pattern_first» = o .«pattern_first»;
     }
