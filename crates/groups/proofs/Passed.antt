@@ -7,9 +7,9 @@ use lib.Ieee.{Float}
 use Rattle.loops.specs.Loop.{copied}
 use Rattle.groups.specs.declared.Pass.{Pass}
 use Rattle.groups.specs.Sources.{drivenOf, independentOf}
-use Rattle.groups.specs.Stamping.{sourceTime, completed, linearOf}
+use Rattle.groups.specs.Stamping.{completed, linearOf}
 
-module _ (p : Pass) (sheet points : List ℕ) (base x m₀ : List Float) (code : ℕ) (m : List Float) (driven : drivenOf code m ≡ independentOf sheet points (sourceTime p) (p .nodes) (p .order) (copied base m₀)) where
+module _ (p : Pass) (sheet points : List ℕ) (base x m₀ : List Float) (code : ℕ) (m : List Float) (driven : drivenOf code m ≡ independentOf p sheet points (copied base m₀)) where
   pub ended : (code ≡ 0 → ⊥) → drivenOf code m ≡ linearOf p sheet points base x m₀
   unfolding linearOf
   ended h = rw (← driven, ne-eqb _ _ h)

@@ -3,9 +3,7 @@ use Prim.Native.Nat.{ℕ}
 use mathlib.Core.Bool.{cond}
 use mathlib.Core.List.{List}
 use lib.Dec.{eqb}
-use lib.Ieee as Ieee
-use lib.Ieee.{Float, binary64}
-use Rattle.num.specs.Floats.{nought}
+use lib.Ieee.{Float}
 use Rattle.options.specs.declared.Options.{Options}
 use Rattle.loops.specs.Loop.{copied, zerosLike}
 use Rattle.groups.specs.declared.Pass.{Pass}
@@ -17,10 +15,6 @@ use Rattle.groups.specs.Diodes.{Stamped, stampedOf, diodesOf}
 unfoldable pub baseOf : ℕ → ℕ → List ℕ → List Float → List Float
 baseOf nodes n sheet base = basedOn nodes n sheet (zerosLike base)
 
--- the time at which sources have their level: 0.0 at DC, the end of the step in the transient
-abbrev pub sourceTime : Pass → Float
-sourceTime p = cond (p .transient) (Ieee.add binary64 (p .time) (p .step)) nought
-
 -- dependent and storage (transient) stamps, over a matrix with the independent ones; x is the last accepted vector
 unfoldable pub completed : Pass → List ℕ → List Float → List Float → List Float
 completed p sheet x m =
@@ -30,7 +24,7 @@ completed p sheet x m =
 -- what a pass stamps before its diodes: over a copy of the base, until a sine ends it by 26. The last solved vector and the memory have no share in it, so that passes of one step have it in common.
 unfoldable pub linearOf : Pass → List ℕ → List ℕ → List Float → List Float → List Float → Driven
 linearOf p sheet points base x m =
-    let a = independentOf sheet points (sourceTime p) (p .nodes) (p .order) (copied base m) in
+    let a = independentOf p sheet points (copied base m) in
     cond (eqb (a .code) 0) (drivenOf 0 (completed p sheet x (a .matrix))) a
 
 -- "Each pass adds independent, dependent, storage (transient) and diode stamps", until one ends it by 26 or 22; v is the last solved vector

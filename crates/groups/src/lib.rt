@@ -7,15 +7,16 @@ mod sources;
 
 ghost use mathlib.Core.Path.{_≡_};
 ghost use Rattle.groups.specs.Sources.{drivenOf};
-ghost use Rattle.groups.specs.Stamping.{baseOf, sourceTime, completed, linearOf};
+ghost use Rattle.groups.specs.Stamping.{baseOf, completed, linearOf};
 
-// Which pass is stamped: the node count, the order (nodes and sources), and in the transient the time and the step.
+// Which pass is stamped: the node count, the order (nodes and sources), in the transient the time and the step, and whether patterns go by the rule of the option.
 pub struct Pass {
     pub nodes: usize,
     pub order: usize,
     pub transient: bool,
     pub time: f64,
     pub step: f64,
+    pub pattern_first: bool,
 }
 
 // Makes the base matrix of a run: I, R and V over zeros.
@@ -38,7 +39,7 @@ pub fn stamp_linear(
     ensures { λ r. ⌜ drivenOf r (now (matrix .exit)) ≡ linearOf p (now (sheet .entry)) (now (points .entry)) (now (base .entry)) (now (accepted .entry)) (now (matrix .entry)) ⌝ }
 {
     loops::copy(base, matrix);
-    let code = sources::stamp_independent(sheet, points, source_time(p), p.nodes, p.order, matrix);
+    let code = sources::stamp_independent(p, sheet, points, matrix);
     if code != 0 {
         return code;
     }
@@ -52,11 +53,4 @@ fn complete(p: Pass, sheet: &[u8], accepted: &[f64], matrix: &mut [f64])
 {
     plain::stamp_dependent(sheet, p.nodes, p.order, matrix);
     plain::stamp_storage_if(p.transient, sheet, p.order, accepted, p.step, matrix);
-}
-
-// The time at which sources have their level.
-fn source_time(p: Pass) -> f64
-    ensures { λ r. ⌜ r ≡ sourceTime p ⌝ }
-{
-    if p.transient { p.time + p.step } else { 0.0 }
 }

@@ -1,4 +1,5 @@
-// The independent sources: Isin, Vsin and Vpwl at a time. A sine that is refused ends the stamping.
+// The independent sources: Isin, Vsin and Vpwl at the time of a pass. A sine that is refused ends the stamping.
+use super::Pass;
 use super::records::record_in;
 use models::sine::Level;
 use models::sine::evaluate;
@@ -13,99 +14,91 @@ ghost use mathlib.Core.Path.{_≡_};
 ghost use Rattle.sheet.specs.Row.{rowOf};
 ghost use Rattle.stamps.specs.Kinds.{currentWrites, voltageWrites};
 ghost use Rattle.models.specs.declared.sine.Level.the-variants.{Value};
-ghost use Rattle.models.specs.Vpwl.{patternAt, pointsFrom};
-ghost use Rattle.groups.specs.Sources.{drivenOf, levelled, driven, drivenAt, independentOf};
+ghost use Rattle.models.specs.Vpwl.{patternOf, pointsFrom};
+ghost use Rattle.groups.specs.Sources.{drivenOf, sourceTime, levelled, driven, drivenAt, independentOf};
 ghost use Rattle.groups.specs.Records.{onRecord};
 
-// Stamps the sources at time t, in the order of the records, and answers 0 or the verdict that ended it.
-pub fn stamp_independent(
-    sheet: &[u8],
-    points: &[u8],
-    t: f64,
-    nodes: usize,
-    n: usize,
-    m: &mut [f64],
-) -> u8
-    ensures { λ r. ⌜ drivenOf r (now (m .exit)) ≡ independentOf (now (sheet .entry)) (now (points .entry)) t nodes n (now (m .entry)) ⌝ }
+// Stamps the sources at the pass's time, in the order of the records, and answers 0 or the verdict that ended it.
+pub fn stamp_independent(p: Pass, sheet: &[u8], points: &[u8], m: &mut [f64]) -> u8
+    ensures { λ r. ⌜ drivenOf r (now (m .exit)) ≡ independentOf p (now (sheet .entry)) (now (points .entry)) (now (m .entry)) ⌝ }
 {
     let count = sheet::records(sheet);
     let mut code: u8 = 0;
     for i in 0..count {
-        code = source_at(code, sheet, points, t, nodes, n, i, m);
+        code = source_at(code, p, sheet, points, i, m);
     }
     code
 }
 
 // Record i, unless there is a verdict already.
-fn source_at(
-    code: u8,
-    sheet: &[u8],
-    points: &[u8],
-    t: f64,
-    nodes: usize,
-    n: usize,
-    i: usize,
-    m: &mut [f64],
-) -> u8
-    ensures { λ r. ⌜ drivenOf r (now (m .exit)) ≡ drivenAt (now (sheet .entry)) (now (points .entry)) t nodes n i (drivenOf code (now (m .entry))) ⌝ }
+fn source_at(code: u8, p: Pass, sheet: &[u8], points: &[u8], i: usize, m: &mut [f64]) -> u8
+    ensures { λ r. ⌜ drivenOf r (now (m .exit)) ≡ drivenAt p (now (sheet .entry)) (now (points .entry)) i (drivenOf code (now (m .entry))) ⌝ }
 {
     if code != 0 {
         return code;
     }
-    source_one(
-        record_in(sheet, i, kind::ISIN, kind::VPWL),
-        points,
-        t,
-        nodes,
-        n,
-        m,
-    )
+    source_one(record_in(sheet, i, kind::ISIN, kind::VPWL), p, points, m)
 }
 
 // What a record writes as a source.
-fn source_one(d: Decoded, points: &[u8], t: f64, nodes: usize, n: usize, m: &mut [f64]) -> u8
-    ensures { λ r. ⌜ drivenOf r (now (m .exit)) ≡ onRecord (driven (now (points .entry)) t nodes n (now (m .entry))) (drivenOf 0 (now (m .entry))) d ⌝ }
+fn source_one(d: Decoded, w: Pass, points: &[u8], m: &mut [f64]) -> u8
+    ensures { λ r. ⌜ drivenOf r (now (m .exit)) ≡ onRecord (driven w (now (points .entry)) (now (m .entry))) (drivenOf 0 (now (m .entry))) d ⌝ }
 {
     let Decoded::Good(e) = d else {
         return 0;
     };
     match e {
-        Element::Isin {
-            p,
-            n: q,
-            vo,
-            va,
-            freq,
-        } => current(evaluate(vo, va, freq, t), n, p, q, m),
+        Element::Isin { p, n, vo, va, freq } => {
+            current(evaluate(vo, va, freq, source_time(w)), w.order, p, n, m)
+        }
         Element::Vsin {
             p,
-            n: q,
+            n,
             vo,
             va,
             freq,
             source,
-        } => voltage(evaluate(vo, va, freq, t), nodes, n, source, p, q, m),
+        } => {
+            let v = evaluate(vo, va, freq, source_time(w));
+            voltage(v, w.nodes, w.order, source, p, n, m)
+        }
         Element::Vpwl {
             p,
-            n: q,
+            n,
             t_delay,
             repeat,
             first,
             count,
             source,
         } => {
-            let v = pattern(points, first, count, t_delay, repeat, t);
-            voltage(v, nodes, n, source, p, q, m)
+            let v = pattern(w, points, first, count, t_delay, repeat);
+            voltage(v, w.nodes, w.order, source, p, n, m)
         }
         _ => 0,
     }
 }
 
-// The level of a pattern, which is never refused.
-fn pattern(points: &[u8], first: u16, count: u16, t_delay: f64, repeat: f64, t: f64) -> Level
-    ensures { λ r. ⌜ r ≡ Value (patternAt (pointsFrom (now (points .entry)) first count) «t_delay» repeat t) ⌝ }
+// The time at which sources have their level.
+fn source_time(p: Pass) -> f64
+    ensures { λ r. ⌜ r ≡ sourceTime p ⌝ }
 {
-    Level::Value(vpwl::evaluate(points, first as usize, count as usize, t_delay, repeat, t))
+    if p.transient { p.time + p.step } else { 0.0 }
+}
+
+// The level of a pattern, which is never refused.
+fn pattern(w: Pass, points: &[u8], first: u16, count: u16, t_delay: f64, repeat: f64) -> Level
+    ensures { λ r. ⌜ r ≡ Value (patternOf (w .«pattern_first») (pointsFrom (now (points .entry)) first count) «t_delay» repeat (sourceTime w)) ⌝ }
+{
+    let v = vpwl::level(
+        w.pattern_first,
+        points,
+        first as usize,
+        count as usize,
+        t_delay,
+        repeat,
+        source_time(w),
+    );
+    Level::Value(v)
 }
 
 // A current at its level.

@@ -4,6 +4,7 @@ use mathlib.Core.Bool.{cond, not}
 use mathlib.Core.List.{List}
 use lib.Dec.{eqb}
 use lib.Ieee.{Float}
+use Rattle.options.specs.Switch.{on}
 use Rattle.groups.specs.declared.Pass.{Pass}
 use Rattle.groups.specs.Diodes.{Stamped}
 use Rattle.groups.specs.Stamping.{stampOf}
@@ -25,9 +26,10 @@ pub record Circuit : Type 0 where
 abbrev pub circuitOf : Job → ℕ → List ℕ → List ℕ → Circuit
 circuitOf j n sheet points = record { job = j; order = n; sheet = sheet; points = points }
 
--- the pass that is stamped: DC, or a transient's step from its time
+-- the pass that is stamped: DC, or a transient's step from its time; either by the option on patterns
 abbrev pub passOf : Job → ℕ → Counters → Pass
-passOf j n c = record { nodes = j .nodes; order = n; transient = not (eqb (c .phase) dcPhase); time = c .time; step = c .step }
+passOf j n c =
+    record { nodes = j .nodes; order = n; transient = not (eqb (c .phase) dcPhase); time = c .time; step = c .step; «pattern_first» = on (j .options .«pattern_first») }
 
 -- what a pass that was stamped as t leaves: where all is stamped, that is the system, and it is solved; a stamp that fails leaves the last system and the last vector.
 -- A diode before the failing one has already taken its new voltage.

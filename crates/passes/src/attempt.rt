@@ -163,6 +163,7 @@ fn pass_of(j: Job, order: usize, c: Counters) -> Pass
         transient: c.phase != DC,
         time: c.time,
         step: c.step,
+        pattern_first: j.options.pattern_first != 0,
     }
 }
 

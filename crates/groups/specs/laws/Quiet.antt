@@ -8,6 +8,7 @@ use Rattle.numbers.specs.Kinds.{resistor, voltage, diode, isin, vpwl, capacitor
 use Rattle.options.specs.declared.Options.{Options}
 use Rattle.sheet.specs.declared.Element.the-variants.{R, I, «V», D, Isin, Vsin, Vpwl, C, Vcvs, Vccs}
 use Rattle.sheet.specs.Kind.{kindOf}
+use Rattle.groups.specs.declared.Pass.{Pass}
 use Rattle.groups.specs.laws.Passing.{Quiet}
 use Rattle.groups.specs.Plain.{baseWrites, dependentWrites, storageWrites}
 use Rattle.groups.specs.Sources.{driven, drivenOf}
@@ -52,18 +53,18 @@ quiet-storage n v step (C p q x) h = absurd (false≢true h)
 quiet-storage n v step (Vcvs p q cp cq x s) h = refl
 quiet-storage n v step (Vccs p q cp cq x) h = refl
 
-pub quiet-driven : (points : List ℕ) (t : Float) (nodes n : ℕ) (m : List Float) → Quiet isin vpwl (driven points t nodes n m) (drivenOf 0 m)
+pub quiet-driven : (w : Pass) (points : List ℕ) (m : List Float) → Quiet isin vpwl (driven w points m) (drivenOf 0 m)
 unfolding kindOf driven
-quiet-driven points t nodes n m (R p q x) h = refl
-quiet-driven points t nodes n m (I p q x) h = refl
-quiet-driven points t nodes n m («V» p q x s) h = refl
-quiet-driven points t nodes n m (D p q x y) h = refl
-quiet-driven points t nodes n m (Isin p q x y z) h = absurd (false≢true h)
-quiet-driven points t nodes n m (Vsin p q x y z s) h = absurd (false≢true h)
-quiet-driven points t nodes n m (Vpwl p q x y f k s) h = absurd (false≢true h)
-quiet-driven points t nodes n m (C p q x) h = refl
-quiet-driven points t nodes n m (Vcvs p q cp cq x s) h = refl
-quiet-driven points t nodes n m (Vccs p q cp cq x) h = refl
+quiet-driven w points m (R p q x) h = refl
+quiet-driven w points m (I p q x) h = refl
+quiet-driven w points m («V» p q x s) h = refl
+quiet-driven w points m (D p q x y) h = refl
+quiet-driven w points m (Isin p q x y z) h = absurd (false≢true h)
+quiet-driven w points m (Vsin p q x y z s) h = absurd (false≢true h)
+quiet-driven w points m (Vpwl p q x y f k s) h = absurd (false≢true h)
+quiet-driven w points m (C p q x) h = refl
+quiet-driven w points m (Vcvs p q cp cq x s) h = refl
+quiet-driven w points m (Vccs p q cp cq x) h = refl
 
 pub quiet-biased : (o : Options) (n : ℕ) (v : List Float) (i : ℕ) (m w : List Float) → Quiet diode diode (biased o n v i m w) (stampedOf 0 m w)
 unfolding kindOf biased

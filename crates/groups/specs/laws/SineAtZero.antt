@@ -1,5 +1,5 @@
 -- At time 0.0 no source ends the stamping, since no sine is refused there; and so in DC a pass is stamped whole, or ended by a diode with 22.
--- Clients cite independent-at-zero, linear-in-dc and stamp-in-dc. Assumes nothing.
+-- Clients cite independent-in-dc, linear-in-dc and stamp-in-dc. Assumes nothing.
 use Prim.Native.Nat.{ℕ}
 use mathlib.Core.Path.{_≡_, refl}
 use mathlib.Core.Logic.{_⊎_}
@@ -9,7 +9,6 @@ use native.Mathlib.Omega.{arith}
 use borrow.Author.Tests.{eq-eqb}
 use lib.Ieee.{Float}
 use Rattle.numbers.specs.Verdicts.{settled, diodeCurrent}
-use Rattle.num.specs.Floats.{nought}
 use Rattle.options.specs.declared.Options.{Options}
 use Rattle.loops.specs.Loop.{copied}
 use Rattle.loops.specs.laws.Loop.{turns-inv}
@@ -25,8 +24,8 @@ use Rattle.models.specs.declared.sine.Level.{Level}
 use Rattle.models.specs.declared.sine.Level.the-variants.{Value, Refused}
 use Rattle.groups.specs.declared.Pass.{Pass}
 use Rattle.groups.specs.Records.{elementAt}
-use Rattle.groups.specs.Sources.{Driven, drivenOf, levelled, driven, drivenAt, independentOf}
-use Rattle.groups.specs.Stamping.{sourceTime, linearOf, stampOf}
+use Rattle.groups.specs.Sources.{Driven, drivenOf, sourceTime, levelled, driven, drivenAt, independentOf}
+use Rattle.groups.specs.Stamping.{linearOf, stampOf}
 use Rattle.groups.specs.laws.Stamping.{on-record, diodes-fine}
 
 -- ---- the sources
@@ -39,11 +38,17 @@ level-whole : (n : ℕ) (f : Float → List Write) (l : Level) (m : List Float) 
 level-whole n f (Value x) m h = refl
 level-whole n f Refused m h = absurd (omega arith)
 
-module _ (points : List ℕ) (nodes n : ℕ) where
-  element-whole : (m : List Float) (e : Element) → Whole (driven points nought nodes n m e)
+-- ---- a pass of DC, whose time is 0.0
+
+module _ (w : Pass) (dc : w .transient ≡ false) (points : List ℕ) where
+  -- a sine source has its level
+  sine-whole : (vo va freq : Float) → numbersOf (sineAt vo va freq (sourceTime w)) .verdict ≡ settled
+  sine-whole vo va freq = rw dc (sine-at-zero vo va freq)
+
+  element-whole : (m : List Float) (e : Element) → Whole (driven w points m e)
   unfolding driven
-  element-whole m (Isin p q vo va freq) = level-whole n (currentWrites n (p .0) (q .0)) (sineAt vo va freq nought) m (sine-at-zero vo va freq)
-  element-whole m (Vsin p q vo va freq s) = level-whole n (voltageWrites n (rowOf nodes s) (p .0) (q .0)) (sineAt vo va freq nought) m (sine-at-zero vo va freq)
+  element-whole m (Isin p q vo va freq) = level-whole (w .order) (currentWrites (w .order) (p .0) (q .0)) (sineAt vo va freq (sourceTime w)) m (sine-whole vo va freq)
+  element-whole m (Vsin p q vo va freq s) = level-whole (w .order) (voltageWrites (w .order) (rowOf (w .nodes) s) (p .0) (q .0)) (sineAt vo va freq (sourceTime w)) m (sine-whole vo va freq)
   element-whole m (Vpwl p q delay repeat first count s) = refl
   element-whole m (R p q x) = refl
   element-whole m (I p q x) = refl
@@ -53,28 +58,20 @@ module _ (points : List ℕ) (nodes n : ℕ) where
   element-whole m (Vcvs p q cp cq x s) = refl
   element-whole m (Vccs p q cp cq x) = refl
 
-  record-whole : (sheet : List ℕ) (i : ℕ) (x : Driven) → Whole x → Whole (drivenAt sheet points nought nodes n i x)
+  record-whole : (sheet : List ℕ) (i : ℕ) (x : Driven) → Whole x → Whole (drivenAt w sheet points i x)
   unfolding drivenAt
-  record-whole sheet i x h = rw (eq-eqb _ _ h) (on-record Whole (driven points nought nodes n (x .matrix)) (drivenOf 0 (x .matrix)) (element-whole (x .matrix)) refl (elementAt sheet i))
+  record-whole sheet i x h = rw (eq-eqb _ _ h) (on-record Whole (driven w points (x .matrix)) (drivenOf 0 (x .matrix)) (element-whole (x .matrix)) refl (elementAt sheet i))
 
   -- all sources of a sheet have their levels
-  pub independent-at-zero : (sheet : List ℕ) (m : List Float) → independentOf sheet points nought nodes n m .code ≡ 0
+  pub independent-in-dc : (sheet : List ℕ) (m : List Float) → independentOf w sheet points m .code ≡ 0
   unfolding independentOf
-  independent-at-zero sheet m = turns-inv Whole (drivenAt sheet points nought nodes n) (recordsOf sheet) (drivenOf 0 m) refl (λ i l x h. record-whole sheet i x h)
-
--- ---- a pass of DC, whose time is 0.0
+  independent-in-dc sheet m = turns-inv Whole (drivenAt w sheet points) (recordsOf sheet) (drivenOf 0 m) refl (λ i l x h. record-whole sheet i x h)
 
 module _ (p : Pass) (dc : p .transient ≡ false) (sheet points : List ℕ) (base x : List Float) where
-  source-time : sourceTime p ≡ nought
-  source-time = rw dc
-
-  sources-whole : (m : List Float) → independentOf sheet points (sourceTime p) (p .nodes) (p .order) m .code ≡ 0
-  sources-whole m = rw source-time (independent-at-zero points (p .nodes) (p .order) sheet m)
-
   -- what is stamped before the diodes is whole
   pub linear-in-dc : (m : List Float) → linearOf p sheet points base x m .code ≡ 0
   unfolding linearOf
-  linear-in-dc m = rw (eq-eqb _ _ (sources-whole (copied base m)))
+  linear-in-dc m = rw (eq-eqb _ _ (independent-in-dc p dc points sheet (copied base m)))
 
   -- so that only a diode can end the pass
   pub stamp-in-dc : (o : Options) (v y m : List Float) → (stampOf o p sheet points base x v y m .code ≡ 0) ⊎ (stampOf o p sheet points base x v y m .code ≡ diodeCurrent)

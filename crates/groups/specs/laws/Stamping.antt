@@ -36,9 +36,9 @@ use Rattle.models.specs.declared.diode.Linear.the-variants.{Model, NotFinite}
 use Rattle.groups.specs.declared.Pass.{Pass}
 use Rattle.groups.specs.Records.{elementAt, onRecord, across}
 use Rattle.groups.specs.Plain.{dependentOf, storageOf}
-use Rattle.groups.specs.Sources.{Driven, drivenOf, levelled, driven, drivenAt, independentOf}
+use Rattle.groups.specs.Sources.{Driven, drivenOf, sourceTime, levelled, driven, drivenAt, independentOf}
 use Rattle.groups.specs.Diodes.{Stamped, stampedOf, companion, biased, biasedAt, diodesOf}
-use Rattle.groups.specs.Stamping.{sourceTime, completed, linearOf, stampOf}
+use Rattle.groups.specs.Stamping.{completed, linearOf, stampOf}
 use Rattle.groups.specs.laws.Passing.{apart}
 use Rattle.groups.specs.laws.Quiet.{quiet-biased}
 
@@ -56,31 +56,31 @@ levelled-fine : (n : ℕ) (f : Float → List Write) (l : Level) (m : List Float
 levelled-fine n f (Value x) m = (stamped-length n (f x) m, inl refl)
 levelled-fine n f NoLevel m = (refl, inr refl)
 
-driven-fine : (points : List ℕ) (t : Float) (nodes n : ℕ) (m : List Float) (e : Element) → Sourced m (driven points t nodes n m e)
+driven-fine : (w : Pass) (points : List ℕ) (m : List Float) (e : Element) → Sourced m (driven w points m e)
 unfolding driven
-driven-fine points t nodes n m (Isin p q vo va freq) = levelled-fine n (currentWrites n (p .0) (q .0)) (sineAt vo va freq t) m
-driven-fine points t nodes n m (Vsin p q vo va freq s) = levelled-fine n (voltageWrites n (rowOf nodes s) (p .0) (q .0)) (sineAt vo va freq t) m
-driven-fine points t nodes n m (Vpwl p q delay repeat first count s) = (stamped-length n _ m, inl refl)
-driven-fine points t nodes n m (R p q x) = (refl, inl refl)
-driven-fine points t nodes n m (I p q x) = (refl, inl refl)
-driven-fine points t nodes n m («V» p q x s) = (refl, inl refl)
-driven-fine points t nodes n m (D p q x y) = (refl, inl refl)
-driven-fine points t nodes n m (C p q x) = (refl, inl refl)
-driven-fine points t nodes n m (Vcvs p q cp cq x s) = (refl, inl refl)
-driven-fine points t nodes n m (Vccs p q cp cq x) = (refl, inl refl)
+driven-fine w points m (Isin p q vo va freq) = levelled-fine (w .order) (currentWrites (w .order) (p .0) (q .0)) (sineAt vo va freq (sourceTime w)) m
+driven-fine w points m (Vsin p q vo va freq s) = levelled-fine (w .order) (voltageWrites (w .order) (rowOf (w .nodes) s) (p .0) (q .0)) (sineAt vo va freq (sourceTime w)) m
+driven-fine w points m (Vpwl p q delay repeat first count s) = (stamped-length (w .order) _ m, inl refl)
+driven-fine w points m (R p q x) = (refl, inl refl)
+driven-fine w points m (I p q x) = (refl, inl refl)
+driven-fine w points m («V» p q x s) = (refl, inl refl)
+driven-fine w points m (D p q x y) = (refl, inl refl)
+driven-fine w points m (C p q x) = (refl, inl refl)
+driven-fine w points m (Vcvs p q cp cq x s) = (refl, inl refl)
+driven-fine w points m (Vccs p q cp cq x) = (refl, inl refl)
 
-source-fine : (sheet points : List ℕ) (t : Float) (nodes n : ℕ) (m : List Float) (i : ℕ) (x : Driven) → Sourced m x → (b : Bool) → eqb (x .code) 0 ≡ b → Sourced m (drivenAt sheet points t nodes n i x)
+source-fine : (w : Pass) (sheet points : List ℕ) (m : List Float) (i : ℕ) (x : Driven) → Sourced m x → (b : Bool) → eqb (x .code) 0 ≡ b → Sourced m (drivenAt w sheet points i x)
 unfolding drivenAt
-source-fine sheet points t nodes n m i x k true e =
-    let f = on-record (Sourced (x .matrix)) (driven points t nodes n (x .matrix)) (drivenOf 0 (x .matrix)) (driven-fine points t nodes n (x .matrix)) (refl, inl refl) (elementAt sheet i) in
+source-fine w sheet points m i x k true e =
+    let f = on-record (Sourced (x .matrix)) (driven w points (x .matrix)) (drivenOf 0 (x .matrix)) (driven-fine w points (x .matrix)) (refl, inl refl) (elementAt sheet i) in
     rw e (f .0 ∙ k .0, f .1)
-source-fine sheet points t nodes n m i x k false e = rw e k
+source-fine w sheet points m i x k false e = rw e k
 
-independent-fine : (sheet points : List ℕ) (t : Float) (nodes n : ℕ) (m : List Float) → Sourced m (independentOf sheet points t nodes n m)
+independent-fine : (w : Pass) (sheet points : List ℕ) (m : List Float) → Sourced m (independentOf w sheet points m)
 unfolding independentOf
-independent-fine sheet points t nodes n m =
-    turns-inv (Sourced m) (drivenAt sheet points t nodes n) (recordsOf sheet) (drivenOf 0 m) (refl, inl refl)
-    (λ i l x k. source-fine sheet points t nodes n m i x k (eqb (x .code) 0) refl)
+independent-fine w sheet points m =
+    turns-inv (Sourced m) (drivenAt w sheet points) (recordsOf sheet) (drivenOf 0 m) (refl, inl refl)
+    (λ i l x k. source-fine w sheet points m i x k (eqb (x .code) 0) refl)
 
 -- ---- the diodes: 0 or 22
 
@@ -178,10 +178,10 @@ unfolding linearOf
 linear-fine p sheet points base x m = by-code (eqb (a .code) 0) refl
   where
     a : Driven
-    a = independentOf sheet points (sourceTime p) (p .nodes) (p .order) (copied base m)
+    a = independentOf p sheet points (copied base m)
 
     k : Sourced (copied base m) a
-    k = independent-fine sheet points (sourceTime p) (p .nodes) (p .order) (copied base m)
+    k = independent-fine p sheet points (copied base m)
 
     by-code : (b : Bool) → eqb (a .code) 0 ≡ b → Sourced m (linearOf p sheet points base x m)
     by-code true e = rw e (completed-length p sheet x (a .matrix) ∙ (k .0 ∙ copied-length base m), inl refl)
