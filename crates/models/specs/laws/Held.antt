@@ -1,0 +1,279 @@
+-- Floats that binary64 holds: each is what its value rounds to, so 0.0 taken off, 0.0 added and `%` by a larger number leave it; a difference that is above zero does not round to zero; and which results are no NaN.
+-- Clients cite from-zero, lt-le, less-zero, zero-plus, rem-below, rem-positive, difference, and the laws on isNan. Assumes nothing.
+use Prim.Native.Nat.{ℕ, zero, suc, _+_, _-_, _*_, _/_, _%_, _^_, _≤_, _<_}
+use mathlib.Core.Path.{_≡_, refl, sym, ap, _∙_, subst}
+use mathlib.Core.Logic.{_⊎_, inl, inr, ⊎-elim}
+use mathlib.Core.Bool.{Bool, true, false, not, _&&_, _||_, Bool·beq, cond}
+use native.Mathlib.Nat.{add-zero, zero-add, sub-zero, le-trans, le-of-eq, lt-irrefl, lt-of-lt-of-le, zero-lt-suc, zero-mul, suc-mul, one-mul, mul-one, mul-comm, mul-assoc, mul-right-comm, mul-sub, mul-pos, mul-le-mul-right, mul-lt-mul-of-pos-right, lt-of-mul-lt-mul-right, mod-eq-of-lt, mod-le}
+use native.Mathlib.Omega.{arith}
+use borrow.Author.Tests.{ltb-true, ltb-false, lt-ltb, le-ltb, ne-eqb, eqb-true}
+use lib.Dec.{T, ltb, leb, eqb, ltb→lt, leb→le, lt→ltb}
+use lib.IntN.{ℤ, pos, negsuc}
+use lib.Pow.{pow-add, pow-pos, pow-mono, pow-lt, shl-lt}
+use lib.Ieee.{Float, nan, inf, fin, Format, binary64, prec, emax, low, hid, top, up, down, unlike, size, odd, units, round, neg, sum, add, sub, mul, rem, lt, eq, le, below, fits, isNan, ofBits, toBits}
+use lib.Ieee.Bits.{ofBits-toBits}
+use lib.Ieee.Exact.{HasValue, round-exact}
+use lib.Ieee.Fits.{reach, up-pos, down-pos, and-l, and-r, round-is, round-fits}
+use lib.Ieee.Nearest.{closest, div-same}
+use lib.Ieee.Order.{round-mono}
+use lib.Ieee.Positive.{positive, above, first-pos, between}
+use lib.Ieee.Scale.{finite, round-same}
+use Rattle.num.specs.Floats.{nought}
+use Rattle.num.specs.laws.Less.{no, lt-self, lt-trans, lt-either}
+use Rattle.models.specs.Signs.{_⊕_, _⊖_, _⊗_}
+
+-- ---- the order
+
+-- what is above a finite number that is not below 0.0 is above 0.0
+pub from-zero : (q z : Float) → lt q nought ≡ false → lt q z ≡ true → lt nought z ≡ true
+unfolding ofBits
+from-zero q z h p = ⊎-elim (λ u. no (sym h ∙ u)) (λ u. u) (lt-either q z nought tt p)
+
+-- a test that would be contradicted is false
+pub refuted : (b : Bool) → (b ≡ true → ⊥) → b ≡ false
+refuted true f = absurd (f refl)
+refuted false f = refl
+
+both-false : (a b : Bool) → a ≡ false → b ≡ false → a || b ≡ false
+both-false a b p q = rw (p, q)
+
+no-tie : (a b : ℕ) (u : Bool) → (b ≡ a → ⊥) → (eqb b a && u) ≡ false
+no-tie a b u f = rw (ne-eqb b a f)
+
+lt-eq : (x y : Float) → lt x y ≡ true → eq y x ≡ false
+unfolding lt eq
+lt-eq nan y p = no p
+lt-eq (inf s) nan p = no p
+lt-eq (inf true) (inf true) p = no p
+lt-eq (inf true) (inf false) p = refl
+lt-eq (inf false) (inf t) p = no p
+lt-eq (inf s) (fin t n d) p = refl
+lt-eq (fin s m e) nan p = no p
+lt-eq (fin s m e) (inf t) p = refl
+lt-eq (fin s m e) (fin t n d) p = go s t p
+  where
+    a : ℕ
+    a = m * up e * down d
+
+    b : ℕ
+    b = n * up d * down e
+
+    go : (s t : Bool) → below s a t b ≡ true → (eqb b a && (Bool·beq t s || eqb b 0)) ≡ false
+    go false false q = no-tie a b _ (λ h. absurd (omega (arith, ltb-true a b q)))
+    go false true q = no q
+    go true true q = no-tie a b _ (λ h. absurd (omega (arith, ltb-true b a q)))
+    go true false q = tie (eqb b a) (eqb b 0) (λ h. eqb-true b a h) (λ h. eqb-true b 0 h) (ltb-true 0 (a + b) q)
+      where
+        tie : (u v : Bool) → (u ≡ true → b ≡ a) → (v ≡ true → b ≡ 0) → 0 < a + b → (u && v) ≡ false
+        tie true true h k l = absurd (omega (arith, h refl, k refl))
+        tie true false h k l = refl
+        tie false v h k l = refl
+
+-- of two numbers of which one is below the other, the other is not at most the one
+pub lt-le : (x y : Float) → lt x y ≡ true → le y x ≡ false
+unfolding le
+lt-le x y p = both-false (lt y x) (eq y x) (refuted (lt y x) (λ q. no (sym (lt-self x) ∙ lt-trans x y x p q))) (lt-eq x y p)
+
+-- ---- a float that fits is what its value rounds to
+
+-- the bits of n of the format's smallest values
+abbrev bitsOf : Format → Bool → ℕ → ℕ
+bitsOf f s n = cond s (top f) 0 + (size n - prec f) * hid f + n / 2 ^ (size n - prec f)
+
+bits-are : (f : Format) (x : Float) (s : Bool) (a c : ℕ) → 0 < c → HasValue x s a c → toBits f x ≡ bitsOf f s (a * 2 ^ low f / c)
+unfolding toBits
+bits-are f nan s a c p h = absurd h
+bits-are f (inf t) s a c p h = absurd h
+bits-are f (fin t m e) s a c p h =
+    (λ i. bitsOf f (h .0 i) (m * up e * 2 ^ low f / down e))
+    ∙ ap (bitsOf f s)
+    (div-same (m * up e * 2 ^ low f) (down e) (a * 2 ^ low f) c (down-pos e) p (mul-right-comm (m * up e) (2 ^ low f) c ∙ ap (λ (z : ℕ). z * 2 ^ low f) (h .1) ∙ mul-right-comm a (down e) (2 ^ low f)))
+
+unique : (f : Format) (x y : Float) (s : Bool) (a c : ℕ) → 0 < c → T (fits f x) → T (fits f y) → HasValue x s a c → HasValue y s a c → x ≡ y
+unique f x y s a c p F G h k = sym (ofBits-toBits f x F) ∙ ap (ofBits f) (bits-are f x s a c p h ∙ sym (bits-are f y s a c p k)) ∙ ofBits-toBits f y G
+
+-- m * 2 ^ e is q * 2 ^ j of the format's smallest values
+record Grid (f : Format) (m : ℕ) (e : ℤ) : Type 0 where
+  q : ℕ
+  j : ℕ
+  small : q < 2 ^ prec f
+  fine : q * 2 ^ j < 2 ^ (low f + suc (emax f))
+  is : m * up e * 2 ^ low f ≡ q * 2 ^ j * down e
+
+exponent : (i j : ℕ) → 2 ^ i ≤ 2 ^ j → i ≤ j
+exponent i j h = ltb-false j i (refuted (ltb j i) (λ u. lt-irrefl (2 ^ j) (lt-of-lt-of-le (pow-lt (ltb-true j i u)) h)))
+
+grid : (f : Format) (s : Bool) (m : ℕ) (e : ℤ) → T (fits f (fin s m e)) → Grid f m e
+unfolding fits
+grid f s zero e h = record { q = 0; j = 0; small = pow-pos (prec f); fine = pow-pos (low f + suc (emax f)); is = ap (λ (z : ℕ). z * 2 ^ low f) (zero-mul (up e)) ∙ zero-mul (2 ^ low f) ∙ sym (zero-mul (down e)) }
+grid f s (suc m) (pos a) h =
+    let A = eqb (suc m % 2) 1 in
+    let B = ltb (suc m) (2 ^ prec f) in
+    let C = leb 1 (2 ^ low f) in
+    let D = ltb (suc m * 2 ^ a) (2 ^ suc (emax f) * 1) in
+    let l : suc m * 2 ^ a * 2 ^ low f ≡ suc m * 2 ^ (a + low f) = mul-assoc (suc m) (2 ^ a) (2 ^ low f) ∙ ap (λ (z : ℕ). suc m * z) (sym (pow-add 2 a (low f))) in
+    let u : suc m * 2 ^ a < 2 ^ suc (emax f) = subst (λ (z : ℕ). suc m * 2 ^ a < z) (mul-one (2 ^ suc (emax f))) (ltb→lt (suc m * 2 ^ a) (2 ^ suc (emax f) * 1) (and-r (A && B && C) D h)) in
+    let r : 2 ^ suc (emax f) * 2 ^ low f ≡ 2 ^ (low f + suc (emax f)) = mul-comm (2 ^ suc (emax f)) (2 ^ low f) ∙ sym (pow-add 2 (low f) (suc (emax f))) in
+    record {
+      q = suc m;
+      j = a + low f;
+      small = ltb→lt (suc m) (2 ^ prec f) (and-r A B (and-l (A && B) C (and-l (A && B && C) D h)));
+      fine = subst (λ (z : ℕ). z < 2 ^ (low f + suc (emax f))) l (subst (λ (z : ℕ). suc m * 2 ^ a * 2 ^ low f < z) r (mul-lt-mul-of-pos-right u (pow-pos (low f))));
+      is = l ∙ sym (mul-one (suc m * 2 ^ (a + low f)));
+    }
+grid f s (suc m) (negsuc a) h =
+    let A = eqb (suc m % 2) 1 in
+    let B = ltb (suc m) (2 ^ prec f) in
+    let C = leb (2 ^ suc a) (2 ^ low f) in
+    let D = ltb (suc m * 1) (2 ^ suc (emax f) * 2 ^ suc a) in
+    let small : suc m < 2 ^ prec f = ltb→lt (suc m) (2 ^ prec f) (and-r A B (and-l (A && B) C (and-l (A && B && C) D h))) in
+    let b : suc a ≤ low f = exponent (suc a) (low f) (leb→le (2 ^ suc a) (2 ^ low f) (and-r (A && B) C (and-l (A && B && C) D h))) in
+    let j = low f - suc a in
+    let k : j + suc a ≡ low f = omega arith in
+    let p : prec f + j ≤ low f + suc (emax f) = omega (arith, reach f) in
+    record {
+      q = suc m;
+      j = j;
+      small = small;
+      fine = lt-of-lt-of-le (shl-lt (prec f) j small) (pow-mono p);
+      is = ap (λ (z : ℕ). z * 2 ^ low f) (mul-one (suc m)) ∙ ap (λ (z : ℕ). suc m * z) (sym (ap (λ (z : ℕ). 2 ^ z) k) ∙ pow-add 2 j (suc a)) ∙ sym (mul-assoc (suc m) (2 ^ j) (2 ^ suc a));
+    }
+
+-- a / c is the size of m * 2 ^ e
+own : (s : Bool) (m : ℕ) (e : ℤ) (a c : ℕ) → T (fits binary64 (fin s m e)) → 0 < c → a * down e ≡ m * up e * c → round binary64 s a c ≡ fin s m e
+own s m e a c h C v =
+    let g = grid binary64 s m e h in
+    let n = m * up e in
+    let d = down e in
+    round-same binary64 s a c n d C (down-pos e) v
+    ∙ unique binary64 (round binary64 s n d) (fin s m e) s n d (down-pos e) (round-fits binary64 s n d) h
+    (round-exact binary64 s n d (g .q) (g .j) (down-pos e) (g .small) (g .fine) (g .is))
+    (refl, refl)
+
+-- the sign turns on nothing
+other-sign : (s t : Bool) (m : ℕ) (e : ℤ) → T (fits binary64 (fin s m e)) → T (fits binary64 (fin t m e))
+unfolding fits
+other-sign s t zero e h = h
+other-sign s t (suc m) e h = h
+
+-- ---- 0.0 taken off and added
+
+pub less-zero : (x : Float) → T (fits binary64 x) → x ⊖ nought ≡ x
+unfolding sub add sum neg ofBits
+less-zero nan h = refl
+less-zero (inf s) h = refl
+less-zero (fin s m e) h = go s h
+  where
+    a : ℕ
+    a = m * up e * 1
+
+    z : 0 * 1 * down e ≡ 0
+    z = zero-mul (down e)
+
+    same : (u : Bool) → T (fits binary64 (fin u m e)) → round binary64 u a (down e * 1) ≡ fin u m e
+    same u k = own u m e a (down e * 1) k (mul-pos (down-pos e) (pow-pos 0)) (mul-right-comm (m * up e) 1 (down e) ∙ mul-assoc (m * up e) (down e) 1)
+
+    go : (u : Bool) → T (fits binary64 (fin u m e)) → sum binary64 u a true (0 * 1 * down e) (down e * 1) ≡ fin u m e
+    go true k = rw (z, add-zero a) (same true k)
+    go false k = rw (z, le-ltb a 0 (omega arith), sub-zero a) (same false k)
+
+pub zero-plus : (x : Float) → T (fits binary64 x) → lt nought x ≡ true → nought ⊕ x ≡ x
+unfolding add sum lt ofBits
+zero-plus nan h p = refl
+zero-plus (inf s) h p = refl
+zero-plus (fin true m e) h p = no p
+zero-plus (fin false m e) h p =
+    rw (zero-mul (down e), zero-add (m * up e * 1))
+    (own false m e (m * up e * 1) (1 * down e) h (mul-pos (pow-pos 0) (down-pos e)) (mul-assoc (m * up e) 1 (down e)))
+
+-- ---- `%`
+
+-- a size below the other's stays
+rem-small : (s t : Bool) (m n : ℕ) (e d : ℤ) → T (fits binary64 (fin s m e)) → m * up e * down d < n * up d * down e → rem binary64 (fin s m e) (fin t n d) ≡ fin s m e
+unfolding rem
+rem-small s t m n e d h l =
+    let some : eqb n 0 ≡ false = ne-eqb n 0 (λ z. none z) in
+    rw (some, mod-eq-of-lt l)
+    (own s m e (m * up e * down d) (down e * down d) h (mul-pos (down-pos e) (down-pos d)) (mul-right-comm (m * up e) (down d) (down e) ∙ mul-assoc (m * up e) (down e) (down d)))
+  where
+    none : n ≡ 0 → ⊥
+    none z = omega (arith, ap (λ (k : ℕ). k * up d * down e) z, zero-mul (up d), ap (λ (k : ℕ). k * down e) (zero-mul (up d)), zero-mul (down e))
+
+-- what is not below 0.0 and carries a minus is a zero
+zero-size : (m : ℕ) (e : ℤ) → lt (fin true m e) nought ≡ false → m * up e ≡ 0
+unfolding lt ofBits
+zero-size m e h = omega (arith, ltb-false 0 (m * up e * 1 + 0 * 1 * down e) h, mul-one (m * up e))
+
+rem-sizes : (s t : Bool) (m n : ℕ) (e d : ℤ) → T (fits binary64 (fin s m e)) → lt (fin s m e) nought ≡ false → below s (m * up e * down d) t (n * up d * down e) ≡ true → rem binary64 (fin s m e) (fin t n d) ≡ fin s m e
+rem-sizes false false m n e d F z p = rem-small false false m n e d F (ltb-true _ _ p)
+rem-sizes false true m n e d F z p = no p
+rem-sizes true t m n e d F z p = rem-small true t m n e d F (small t (ap (λ (k : ℕ). k * down d) (zero-size m e z) ∙ zero-mul (down d)) p)
+  where
+    small : (t : Bool) → m * up e * down d ≡ 0 → below true (m * up e * down d) t (n * up d * down e) ≡ true → m * up e * down d < n * up d * down e
+    small true q p = absurd (omega (arith, ltb-true (n * up d * down e) (m * up e * down d) p))
+    small false q p = omega (arith, ltb-true 0 (m * up e * down d + n * up d * down e) p)
+
+-- a number from 0.0 up to y is its own remainder
+pub rem-below : (x y : Float) → T (fits binary64 x) → lt x nought ≡ false → lt x y ≡ true → rem binary64 x y ≡ x
+unfolding lt rem ofBits
+rem-below nan y F z p = no p
+rem-below (inf true) y F z p = no (sym z)
+rem-below (inf false) nan F z p = no p
+rem-below (inf false) (inf t) F z p = no p
+rem-below (inf false) (fin t n d) F z p = no p
+rem-below (fin s m e) nan F z p = no p
+rem-below (fin s m e) (inf t) F z p = refl
+rem-below (fin s m e) (fin t n d) F z p = rem-sizes s t m n e d F z p
+
+-- ---- what rounds to a finite number
+
+odd-finite : (d : ℕ) (s : Bool) (q k l : ℕ) → T (finite (odd d s q k l))
+unfolding odd
+odd-finite d s zero k l = tt
+odd-finite d s (suc q) k l = tt
+
+-- what rounds to at most a finite number rounds to one
+round-finite : (f : Format) (s : Bool) (a c : ℕ) (s′ : Bool) (m : ℕ) (e : ℤ) → T (le (round f false a c) (fin s′ m e)) → T (finite (round f s a c))
+unfolding units le
+round-finite f s a c s′ m e h = rw (round-is f s a c) (go (ltb (q * 2 ^ k) (2 ^ (low f + suc (emax f)))) (rw (round-is f false a c) at h))
+  where
+    k : ℕ
+    k = size (a * 2 ^ low f / c) - prec f
+
+    q : ℕ
+    q = closest (a * 2 ^ low f) (c * 2 ^ k)
+
+    go : (b : Bool) → T (le (cond b (odd (suc (prec f)) false q k (low f)) (inf false)) (fin s′ m e)) → T (finite (cond b (odd (suc (prec f)) s q k (low f)) (inf s)))
+    go true h = odd-finite (suc (prec f)) s q k (low f)
+    go false h = absurd h
+
+-- so of a fraction that is at most one
+round-under : (s : Bool) (a c m : ℕ) (e : ℤ) → T (fits binary64 (fin false m e)) → 0 < c → a * down e ≤ m * up e * c → T (le (round binary64 false a c) (fin false m e))
+round-under s a c m e F C h =
+    subst (λ (z : Float). T (le (round binary64 false a c) z)) (own false m e (m * up e) (down e) F (down-pos e) refl)
+    (round-mono binary64 a c (m * up e) (down e) C (down-pos e) h)
+
+-- a remainder that is a number is finite
+rem-finite : (x y : Float) → T (fits binary64 x) → isNan (rem binary64 x y) ≡ false → T (finite (rem binary64 x y))
+unfolding rem isNan
+rem-finite nan y F h = no (sym h)
+rem-finite (inf s) y F h = no (sym h)
+rem-finite (fin s m e) nan F h = no (sym h)
+rem-finite (fin s m e) (inf t) F h = tt
+rem-finite (fin s m e) (fin t n d) F h = go (eqb n 0) h
+  where
+    a : ℕ
+    a = m * up e * down d
+
+    b : ℕ
+    b = n * up d * down e
+
+    c : ℕ
+    c = down e * down d
+
+    at-most : a % b * down e ≤ m * up e * c
+    at-most = le-trans (mul-le-mul-right (down e) (mod-le a b)) (le-of-eq (mul-right-comm (m * up e) (down d) (down e) ∙ mul-assoc (m * up e) (down e) (down d)))
+
+    go : (z : Bool) → isNan (cond z nan (round binary64 s (a % b) c)) ≡ false → T (finite (cond z nan (round binary64 s (a % b) c)))
+    go true h = no (sym h)
+    go false h = round-finite binary64 s (a % b) c false m e (round-under s (a % b) c m e (other-sign s false m e F) (mul-pos (down-pos e) (down-pos d)) at-most)
