@@ -4,7 +4,7 @@ use Prim.Native.Nat.{ℕ, zero, suc, _+_, _-_, _*_, _/_, _%_, _^_, _≤_, _<_}
 use mathlib.Core.Path.{_≡_, refl, sym, ap, _∙_, subst}
 use mathlib.Core.Logic.{_⊎_, inl, inr, ⊎-elim}
 use mathlib.Core.Bool.{Bool, true, false, not, _&&_, _||_, Bool·beq, cond}
-use native.Mathlib.Nat.{add-zero, zero-add, sub-zero, le-trans, le-of-eq, lt-irrefl, lt-of-lt-of-le, zero-lt-suc, zero-mul, suc-mul, one-mul, mul-one, mul-comm, mul-assoc, mul-right-comm, mul-sub, mul-pos, mul-le-mul-right, mul-lt-mul-of-pos-right, lt-of-mul-lt-mul-right, mod-eq-of-lt, mod-le}
+use native.Mathlib.Nat.{add-zero, zero-add, sub-zero, sub-le, le-trans, le-of-eq, le-of-lt, lt-irrefl, lt-of-lt-of-le, zero-lt-suc, zero-mul, suc-mul, one-mul, mul-one, mul-comm, mul-assoc, mul-right-comm, mul-sub, mul-pos, mul-le-mul-right, mul-lt-mul-of-pos-right, lt-of-mul-lt-mul-right, mod-eq-of-lt, mod-le}
 use native.Mathlib.Omega.{arith}
 use borrow.Author.Tests.{ltb-true, ltb-false, lt-ltb, le-ltb, ne-eqb, eqb-true}
 use lib.Dec.{T, ltb, leb, eqb, ltb→lt, leb→le, lt→ltb}
@@ -248,8 +248,8 @@ round-finite f s a c s′ m e h = rw (round-is f s a c) (go (ltb (q * 2 ^ k) (2 
     go false h = absurd h
 
 -- so of a fraction that is at most one
-round-under : (s : Bool) (a c m : ℕ) (e : ℤ) → T (fits binary64 (fin false m e)) → 0 < c → a * down e ≤ m * up e * c → T (le (round binary64 false a c) (fin false m e))
-round-under s a c m e F C h =
+round-under : (a c m : ℕ) (e : ℤ) → T (fits binary64 (fin false m e)) → 0 < c → a * down e ≤ m * up e * c → T (le (round binary64 false a c) (fin false m e))
+round-under a c m e F C h =
     subst (λ (z : Float). T (le (round binary64 false a c) z)) (own false m e (m * up e) (down e) F (down-pos e) refl)
     (round-mono binary64 a c (m * up e) (down e) C (down-pos e) h)
 
@@ -276,4 +276,144 @@ rem-finite (fin s m e) (fin t n d) F h = go (eqb n 0) h
 
     go : (z : Bool) → isNan (cond z nan (round binary64 s (a % b) c)) ≡ false → T (finite (cond z nan (round binary64 s (a % b) c)))
     go true h = no (sym h)
-    go false h = round-finite binary64 s (a % b) c false m e (round-under s (a % b) c m e (other-sign s false m e F) (mul-pos (down-pos e) (down-pos d)) at-most)
+    go false h = round-finite binary64 s (a % b) c false m e (round-under (a % b) c m e (other-sign s false m e F) (mul-pos (down-pos e) (down-pos d)) at-most)
+
+-- ---- above zero
+
+-- what is above 0.0 and finite is `positive`
+pub positive-of : (x : Float) → lt nought x ≡ true → T (finite x) → T (positive x)
+unfolding lt ofBits
+positive-of nan p f = absurd f
+positive-of (inf s) p f = absurd f
+positive-of (fin true m e) p f = no p
+positive-of (fin false m e) p f =
+    lt→ltb 0 m (first-pos m (up e) (first-pos (m * up e) 1 (subst (λ (k : ℕ). k < m * up e * 1) (zero-mul (down e)) (ltb-true (0 * 1 * down e) (m * up e * 1) p))))
+
+above-number : (x : Float) → lt nought x ≡ true → isNan x ≡ false
+unfolding lt isNan ofBits
+above-number nan p = no p
+above-number (inf s) p = refl
+above-number (fin s m e) p = refl
+
+-- and so is a remainder above 0.0
+pub rem-positive : (x y : Float) → T (fits binary64 x) → lt nought (rem binary64 x y) ≡ true → T (positive (rem binary64 x y))
+rem-positive x y F p = positive-of (rem binary64 x y) p (rem-finite x y F (above-number (rem binary64 x y) p))
+
+-- two different multiples of c / L differ by that at least
+gap : (a b w v c L : ℕ) → 0 < L → a * L ≡ w * c → b * L ≡ v * c → b < a → c ≤ (a - b) * L
+gap a b w v c L p x y h =
+    let i : v * c < w * c = rw (← x, ← y) (mul-lt-mul-of-pos-right h p) in
+    let g : suc v * c ≤ w * c = mul-le-mul-right c (lt-of-mul-lt-mul-right c i) in
+    let d : (a - b) * L ≡ a * L - b * L = mul-comm (a - b) L ∙ mul-sub L a b ∙ (λ i. mul-comm L a i - mul-comm L b i) in
+    omega (arith, suc-mul v c)
+
+-- 2 ^ -1074
+abbrev least : Float
+least = fin false 1 (negsuc 1073)
+
+-- at least 2 ^ -1074 and at most a finite number
+round-positive : (a c m : ℕ) (e : ℤ) → T (fits binary64 (fin false (suc m) e)) → 0 < c → c ≤ a * 2 ^ 1074 → a * down e ≤ suc m * up e * c → T (positive (round binary64 false a c))
+round-positive a c m e F C l h =
+    between least (round binary64 false a c) (fin false (suc m) e) tt (lt→ltb 0 (suc m) (zero-lt-suc m))
+    (subst (λ (z : Float). T (le z (round binary64 false a c))) (own false 1 (negsuc 1073) 1 (2 ^ 1074) (unfold fits in tt) (pow-pos 1074) refl)
+    (round-mono binary64 1 (2 ^ 1074) a c (pow-pos 1074) C (le-trans (le-of-eq (one-mul c)) l)))
+    (round-under a c (suc m) e F C h)
+
+-- a number less one that is below it and not below 0.0: above zero, and finite
+pub difference : (x y : Float) → T (fits binary64 x) → T (fits binary64 y) → T (positive x) → lt y nought ≡ false → lt y x ≡ true → T (positive (x ⊖ y))
+unfolding lt sub add sum neg ofBits
+difference nan y F G p z l = absurd p
+difference (inf s) y F G p z l = absurd p
+difference (fin true m e) y F G p z l = absurd p
+difference (fin false zero e) y F G p z l = absurd p
+difference (fin false (suc m) e) nan F G p z l = no l
+difference (fin false (suc m) e) (inf true) F G p z l = no (sym z)
+difference (fin false (suc m) e) (inf false) F G p z l = no l
+difference (fin false (suc m) e) (fin s n d) F G p z l = go s G z l
+  where
+    a : ℕ
+    a = suc m * up e * down d
+
+    b : ℕ
+    b = n * up d * down e
+
+    c : ℕ
+    c = down e * down d
+
+    g : Grid binary64 (suc m) e
+    g = grid binary64 false (suc m) e F
+
+    w : ℕ
+    w = g .q * 2 ^ g .j
+
+    a-is : a * 2 ^ 1074 ≡ w * c
+    a-is = mul-right-comm (suc m * up e) (down d) (2 ^ 1074) ∙ ap (λ (z : ℕ). z * down d) (g .is) ∙ mul-assoc w (down e) (down d)
+
+    top-is : a * down e ≡ suc m * up e * c
+    top-is = mul-right-comm (suc m * up e) (down d) (down e) ∙ mul-assoc (suc m * up e) (down e) (down d)
+
+    far : (k v : ℕ) → k < a → k * 2 ^ 1074 ≡ v * c → T (positive (round binary64 false (a - k) c))
+    far k v h q =
+        round-positive (a - k) c m e F (mul-pos (down-pos e) (down-pos d)) (gap a k w v c (2 ^ 1074) (pow-pos 1074) a-is q h)
+        (le-trans (mul-le-mul-right (down e) (sub-le a k)) (le-of-eq top-is))
+
+    go : (s : Bool) → T (fits binary64 (fin s n d)) → lt (fin s n d) nought ≡ false → below s b false a ≡ true → T (positive (sum binary64 false a (not s) b c))
+    go false G z l =
+        let h = grid binary64 false n d G in
+        let v = h .q * 2 ^ h .j in
+        let b-is : b * 2 ^ 1074 ≡ v * c = mul-right-comm (n * up d) (down e) (2 ^ 1074) ∙ ap (λ (k : ℕ). k * down e) (h .is) ∙ mul-assoc v (down d) (down e) ∙ ap (λ (k : ℕ). v * k) (mul-comm (down d) (down e)) in
+        let q = ltb-true b a l in
+        rw (le-ltb a b (le-of-lt q)) (far b v q b-is)
+    go true G z l =
+        let q : b ≡ 0 = ap (λ (k : ℕ). k * down e) (zero-size n d z) ∙ zero-mul (down e) in
+        let r : 0 < a = omega (arith, ltb-true 0 (b + a) l) in
+        rw (q, add-zero a, ← sub-zero a) (far 0 0 r (zero-mul (2 ^ 1074) ∙ sym (zero-mul c)))
+
+-- ---- what is no NaN
+
+pub finite-number : (x : Float) → T (finite x) → isNan x ≡ false
+unfolding isNan
+finite-number nan f = absurd f
+finite-number (inf s) f = absurd f
+finite-number (fin s m e) f = refl
+
+cond-number : (b : Bool) (x y : Float) → isNan x ≡ false → isNan y ≡ false → isNan (cond b x y) ≡ false
+cond-number true x y h k = h
+cond-number false x y h k = k
+
+units-number : (f : Format) (s : Bool) (q k : ℕ) → isNan (units f s q k) ≡ false
+unfolding units isNan
+units-number f s q k =
+    cond-number (ltb (q * 2 ^ k) (2 ^ (low f + suc (emax f)))) (odd (suc (prec f)) s q k (low f)) (inf s) (finite-number (odd (suc (prec f)) s q k (low f)) (odd-finite (suc (prec f)) s q k (low f))) refl
+
+round-number : (f : Format) (s : Bool) (a c : ℕ) → isNan (round f s a c) ≡ false
+round-number f s a c = rw (round-is f s a c) (units-number f s _ _)
+
+sum-number : (f : Format) (s : Bool) (a : ℕ) (t : Bool) (b c : ℕ) → isNan (sum f s a t b c) ≡ false
+unfolding sum
+sum-number f s a t b c =
+    cond-number (Bool·beq s t) _ _ (round-number f s (a + b) c) (cond-number (ltb a b) _ _ (round-number f t (b - a) c) (round-number f (s && ltb b a) (a - b) c))
+
+-- a sum with a finite number
+pub add-number : (x y : Float) → isNan x ≡ false → T (finite y) → isNan (x ⊕ y) ≡ false
+unfolding add isNan
+add-number nan y h f = no (sym h)
+add-number (inf s) nan h f = absurd f
+add-number (inf s) (inf t) h f = absurd f
+add-number (inf s) (fin t n d) h f = refl
+add-number (fin s m e) nan h f = absurd f
+add-number (fin s m e) (inf t) h f = absurd f
+add-number (fin s m e) (fin t n d) h f = sum-number binary64 s (m * up e * down d) t (n * up d * down e) (down e * down d)
+
+-- a product with a finite number above zero
+pub mul-number : (x y : Float) → isNan x ≡ false → T (positive y) → isNan (x ⊗ y) ≡ false
+unfolding mul isNan
+mul-number nan y h p = no (sym h)
+mul-number (inf s) nan h p = absurd p
+mul-number (inf s) (inf t) h p = absurd p
+mul-number (inf s) (fin true n d) h p = absurd p
+mul-number (inf s) (fin false n d) h p = rw (ne-eqb n 0 (λ z. absurd (omega (arith, ltb→lt 0 n p)))) refl
+mul-number (fin s m e) nan h p = absurd p
+mul-number (fin s m e) (inf t) h p = absurd p
+mul-number (fin s m e) (fin true n d) h p = absurd p
+mul-number (fin s m e) (fin false n d) h p = round-number binary64 (unlike s false) (m * up e * (n * up d)) (down e * down d)
