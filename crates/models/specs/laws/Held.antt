@@ -377,7 +377,7 @@ finite-number nan f = absurd f
 finite-number (inf s) f = absurd f
 finite-number (fin s m e) f = refl
 
-cond-number : (b : Bool) (x y : Float) → isNan x ≡ false → isNan y ≡ false → isNan (cond b x y) ≡ false
+pub cond-number : (b : Bool) (x y : Float) → isNan x ≡ false → isNan y ≡ false → isNan (cond b x y) ≡ false
 cond-number true x y h k = h
 cond-number false x y h k = k
 
