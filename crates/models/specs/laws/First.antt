@@ -19,7 +19,7 @@ use Rattle.models.specs.declared.vpwl.Point.{Point}
 use Rattle.models.specs.declared.vpwl.Segment.{Segment}
 use Rattle.models.specs.Vpwl.{pointAt, pointsFrom, lastOf, between, orZero, levelOn, pastEnd, levelAt, patternAt, single, atEnd, patternFirst, patternOf}
 use Rattle.models.specs.laws.Points.{last-at, further, found}
-use Rattle.models.specs.laws.Held.{from-zero, refuted, lt-le, less-zero, zero-plus, rem-below, rem-positive, difference, finite-number, cond-number, add-number, mul-number}
+use Rattle.models.specs.laws.Held.{from-zero, refuted, lt-le, less-zero, zero-plus, rem-below, rem-within, positive-of, rem-positive, difference, finite-number, cond-number, add-number, mul-number}
 
 -- ---- the option
 
@@ -171,13 +171,19 @@ module _ (p : Point) (ps : List Point) (held : Held (p ∷ ps)) (rising : Rising
     not-at-end : lt (p .time) (lastOf p ps .time) ≡ true → atEnd repeat t (nought ⊕ lastOf p ps .time) ≡ false
     not-at-end l = and-no (lt repeat nought) (le (nought ⊕ lastOf p ps .time) t) (rw (end-is l) (lt-le t (lastOf p ps .time) below-end))
 
-  -- at the first point's time the first level, exactly
-  pub at-first : patternFirst (p ∷ ps) nought repeat (p .time) ≡ p .level
-  at-first =
+  -- from 0.0 to the first point's time the first level, exactly
+  pub until-first : (t : Float) → T (fits binary64 t) → T (finite t) → lt t nought ≡ false → lt (p .time) t ≡ false → patternFirst (p ∷ ps) nought repeat t ≡ p .level
+  until-first t fit f z h =
+      let l = lastOf p ps .time in
+      let early : lt (p .time) l ≡ true → lt t l ≡ true = λ u. ⊎-elim (λ v. no (sym h ∙ v)) (λ v. v) (lt-either (p .time) l t f u) in
       ⊎-elim
-      (λ e. rw e (one-point nought repeat (p .time) p (rising .start)))
-      (λ u. to-first nought repeat (p .time) p ps (rising .start) (not-at-end (p .time) (held .0) u (rising .start) u) (rw (cycle-is (p .time) (held .0) u (rising .start)) (lt-self (p .time))))
+      (λ e. rw e (one-point nought repeat t p z))
+      (λ u. to-first nought repeat t p ps z (not-at-end t fit (early u) z u) (rw (cycle-is t fit (early u) z) h))
       (alone-or-above p ps (rising .climbing))
+
+  -- so at that time
+  pub at-first : patternFirst (p ∷ ps) nought repeat (p .time) ≡ p .level
+  at-first = until-first (p .time) (held .0) (rising .first .time) (rising .start) (lt-self (p .time))
 
   last-start : lt (lastOf p ps .time) nought ≡ false
   unfolding lastOf
@@ -219,6 +225,19 @@ module _ (p : Point) (ps : List Point) (held : Held (p ∷ ps)) (rising : Rising
       → patternFirst (p ∷ ps) nought repeat t ≡ levelOn (segment a b) t
   on-line a b n t fit h k l =
       found-line t fit (first-below t n (rising .climbing) h) l ∙ ap (λ (s : Segment). levelOn s t) (finds t nought nought n (rising .climbing) h k)
+
+  -- with repeat, a time and its cycle time have the same level
+  pub each-cycle : (t : Float) → T (fits binary64 t) → T (finite t) → lt t nought ≡ false → lt (p .time) (lastOf p ps .time) ≡ true → lt repeat nought ≡ false
+      → patternFirst (p ∷ ps) nought repeat t ≡ patternFirst (p ∷ ps) nought repeat (rem binary64 t (lastOf p ps .time))
+  unfolding patternFirst patternAt levelAt
+  each-cycle t fit f z u r =
+      let l = lastOf p ps .time in
+      let tc = rem binary64 t l in
+      let end = positive-of l (from-zero (p .time) l (rising .start) u) (last-finite p ps (rising .first) (rising .climbing) .time) in
+      let w = rem-within t l fit (last-held p ps held) f end z in
+      let fit′ = rem-fits binary64 t l fit in
+      let again : rem binary64 tc l ≡ tc = rem-below tc l fit′ (w .1) (w .0) in
+      rw (z, w .1, r, less-zero t fit, less-zero tc fit′, again)
 
 -- ---- never a NaN, whatever the delay, the repeat and the time
 

@@ -4,9 +4,10 @@ use Prim.Native.Nat.{ℕ, zero, suc, _+_, _-_, _*_, _/_, _%_, _^_, _≤_, _<_}
 use mathlib.Core.Path.{_≡_, refl, sym, ap, _∙_, subst}
 use mathlib.Core.Logic.{_⊎_, inl, inr, ⊎-elim}
 use mathlib.Core.Bool.{Bool, true, false, not, _&&_, _||_, Bool·beq, cond}
-use native.Mathlib.Nat.{add-zero, zero-add, sub-zero, sub-le, le-trans, le-of-eq, le-of-lt, lt-irrefl, lt-of-lt-of-le, zero-lt-suc, zero-mul, suc-mul, one-mul, mul-one, mul-comm, mul-assoc, mul-right-comm, mul-sub, mul-pos, mul-le-mul-right, mul-lt-mul-of-pos-right, lt-of-mul-lt-mul-right, mod-eq-of-lt, mod-le}
+use native.Mathlib.Nat.{add-zero, zero-add, sub-zero, sub-le, le-trans, le-of-eq, le-of-lt, lt-irrefl, lt-of-lt-of-le, zero-lt-suc, zero-mul, suc-mul, one-mul, mul-one, mul-comm, mul-assoc, mul-right-comm, mul-sub, mul-pos, mul-le-mul-right, mul-lt-mul-of-pos-right, lt-of-mul-lt-mul-right, mod-eq-of-lt, mod-le, mod-lt, mul-div-cancel, mul-mod-left, lt-of-le-of-lt}
 use native.Mathlib.Omega.{arith}
-use borrow.Author.Tests.{ltb-true, ltb-false, lt-ltb, le-ltb, ne-eqb, eqb-true}
+use borrow.Author.Tests.{leb-true, leb-false, ltb-true, ltb-false, lt-ltb, le-ltb, ne-eqb, eqb-true}
+use lib.Arith.{mod-mul}
 use lib.Dec.{T, ltb, leb, eqb, ltb→lt, leb→le, lt→ltb}
 use lib.IntN.{ℤ, pos, negsuc}
 use lib.Pow.{pow-add, pow-pos, pow-mono, pow-lt, shl-lt}
@@ -138,6 +139,10 @@ grid f s (suc m) (negsuc a) h =
       fine = lt-of-lt-of-le (shl-lt (prec f) j small) (pow-mono p);
       is = ap (λ (z : ℕ). z * 2 ^ low f) (mul-one (suc m)) ∙ ap (λ (z : ℕ). suc m * z) (sym (ap (λ (z : ℕ). 2 ^ z) k) ∙ pow-add 2 j (suc a)) ∙ sym (mul-assoc (suc m) (2 ^ j) (2 ^ suc a));
     }
+
+-- so k times it is, over a denominator k times as large
+scaled : (f : Format) (m : ℕ) (e : ℤ) (g : Grid f m e) (k : ℕ) → m * up e * k * 2 ^ low f ≡ g .q * 2 ^ g .j * (down e * k)
+scaled f m e g k = mul-right-comm (m * up e) k (2 ^ low f) ∙ ap (λ (z : ℕ). z * k) (g .is) ∙ mul-assoc (g .q * 2 ^ g .j) (down e) k
 
 -- a / c is the size of m * 2 ^ e
 own : (s : Bool) (m : ℕ) (e : ℤ) (a c : ℕ) → T (fits binary64 (fin s m e)) → 0 < c → a * down e ≡ m * up e * c → round binary64 s a c ≡ fin s m e
@@ -278,6 +283,120 @@ rem-finite (fin s m e) (fin t n d) F h = go (eqb n 0) h
     go true h = no (sym h)
     go false h = round-finite binary64 s (a % b) c false m e (round-under (a % b) c m e (other-sign s false m e F) (mul-pos (down-pos e) (down-pos d)) at-most)
 
+-- ---- `%` is exact
+
+-- whole numbers: a common factor stays out of `%`
+whole-mod : (x m c : ℕ) → 0 < m → 0 < c → x * c % (m * c) ≡ x % m * c
+whole-mod x m c M C = mod-mul (x * c) M C ∙ rw (mul-div-cancel x C, mul-mod-left x c, add-zero (x % m * c))
+
+-- r has no more than k digits, and zeros after them
+record Few (k r : ℕ) : Type 0 where
+  q : ℕ
+  j : ℕ
+  small : q < 2 ^ k
+  is : r ≡ q * 2 ^ j
+
+shift : (q i j k : ℕ) → i + j ≡ k → q * 2 ^ k ≡ q * 2 ^ i * 2 ^ j
+shift q i j k e = ap (λ (z : ℕ). q * z) (ap (λ (z : ℕ). 2 ^ z) (sym e) ∙ pow-add 2 i j) ∙ sym (mul-assoc q (2 ^ i) (2 ^ j))
+
+mod-few : (k q j r l : ℕ) → q < 2 ^ k → r < 2 ^ k → 0 < r → Few k (q * 2 ^ j % (r * 2 ^ l))
+mod-few k q j r l Q R P = go (leb l j) (leb-true l j) (leb-false l j)
+  where
+    go : (b : Bool) → (b ≡ true → l ≤ j) → (b ≡ false → j < l) → Few k (q * 2 ^ j % (r * 2 ^ l))
+    go true y n =
+        let h = y refl in
+        let i = j - l in
+        let e : i + l ≡ j = omega arith in
+        record { q = q * 2 ^ i % r; j = l; small = lt-of-lt-of-le (mod-lt (q * 2 ^ i) P) (le-of-lt R); is = rw (shift q i l j e) (whole-mod (q * 2 ^ i) r (2 ^ l) P (pow-pos l)) }
+    go false y n =
+        let h = n refl in
+        let i = l - j in
+        let e : i + j ≡ l = omega arith in
+        record { q = q % (r * 2 ^ i); j = j; small = lt-of-le-of-lt (mod-le q (r * 2 ^ i)) Q; is = rw (shift r i j l e) (whole-mod q (r * 2 ^ i) (2 ^ j) (mul-pos P (pow-pos i)) (pow-pos j)) }
+
+rem-value : (s : Bool) (m n : ℕ) (e d : ℤ) → T (fits binary64 (fin false m e)) → T (fits binary64 (fin false n d)) → 0 < n
+    → HasValue (round binary64 s (m * up e * down d % (n * up d * down e)) (down e * down d)) s (m * up e * down d % (n * up d * down e)) (down e * down d)
+rem-value s m n e d F G N =
+    round-exact binary64 s (a % b) c (w .q) (w .j) C (w .small) (lt-of-le-of-lt (le-trans (le-of-eq (sym (w .is))) (mod-le A B)) (g .fine))
+    (sym (whole-mod a b L b-pos L-pos) ∙ rw (a-is, b-is) (whole-mod A B c B-pos C) ∙ ap (λ (z : ℕ). z * c) (w .is))
+  where
+    a : ℕ
+    a = m * up e * down d
+
+    b : ℕ
+    b = n * up d * down e
+
+    c : ℕ
+    c = down e * down d
+
+    L : ℕ
+    L = 2 ^ low binary64
+
+    L-pos : 0 < L
+    L-pos = pow-pos (low binary64)
+
+    C : 0 < c
+    C = mul-pos (down-pos e) (down-pos d)
+
+    g : Grid binary64 m e
+    g = grid binary64 false m e F
+
+    h : Grid binary64 n d
+    h = grid binary64 false n d G
+
+    A : ℕ
+    A = g .q * 2 ^ g .j
+
+    B : ℕ
+    B = h .q * 2 ^ h .j
+
+    a-is : a * L ≡ A * c
+    a-is = scaled binary64 m e g (down d)
+
+    b-is : b * L ≡ B * c
+    b-is = scaled binary64 n d h (down e) ∙ ap (λ (z : ℕ). B * z) (mul-comm (down d) (down e))
+
+    b-pos : 0 < b
+    b-pos = mul-pos (mul-pos N (up-pos d)) (down-pos e)
+
+    B-pos : 0 < B
+    B-pos = first-pos B c (subst (λ (z : ℕ). 0 < z) b-is (mul-pos b-pos L-pos))
+
+    w : Few 53 (A % B)
+    w = mod-few 53 (g .q) (g .j) (h .q) (h .j) (g .small) (h .small) (first-pos (h .q) (2 ^ h .j) B-pos)
+
+-- a value r / c below n * 2 ^ d, where r is below n * up d * u and c is u * down d
+value-below : (z : Float) (r c u n : ℕ) (d : ℤ) → 0 < u → c ≡ u * down d → r < n * up d * u → HasValue z false r c → (lt z (fin false n d) ≡ true) × (lt z nought ≡ false)
+unfolding lt ofBits
+value-below nan r c u n d U e h v = absurd v
+value-below (inf s) r c u n d U e h v = absurd v
+value-below (fin true m i) r c u n d U e h v = no (sym (v .0))
+value-below (fin false m i) r c u n d U e h v = (
+  lt-ltb (m * up i * down d) (n * up d * down i) (lt-of-mul-lt-mul-right u (subst (λ (z : ℕ). z < n * up d * down i * u) (sym left) (subst (λ (z : ℕ). r * down i < z) (mul-right-comm (n * up d) u (down i)) (mul-lt-mul-of-pos-right h (down-pos i))))),
+  le-ltb (m * up i * 1) (0 * 1 * down i) (omega (arith, zero-mul (down i))),
+)
+  where
+    left : m * up i * down d * u ≡ r * down i
+    left = mul-assoc (m * up i) (down d) u ∙ ap (λ (z : ℕ). m * up i * z) (mul-comm (down d) u ∙ sym e) ∙ v .1
+
+-- the remainder by a y above 0.0 of what is not below 0.0 is below y and not below 0.0
+pub rem-within : (x y : Float) → T (fits binary64 x) → T (fits binary64 y) → T (finite x) → T (positive y) → lt x nought ≡ false → (lt (rem binary64 x y) y ≡ true) × (lt (rem binary64 x y) nought ≡ false)
+unfolding lt rem ofBits
+rem-within nan y F G f p z = absurd f
+rem-within (inf s) y F G f p z = absurd f
+rem-within (fin s m e) nan F G f p z = absurd p
+rem-within (fin s m e) (inf t) F G f p z = absurd p
+rem-within (fin s m e) (fin true n d) F G f p z = absurd p
+rem-within (fin false m e) (fin false n d) F G f p z =
+    let N : 0 < n = ltb→lt 0 n p in
+    rw (ne-eqb n 0 (λ q. absurd (omega arith)))
+    (value-below (round binary64 false (m * up e * down d % (n * up d * down e)) (down e * down d)) _ (down e * down d) (down e) n d (down-pos e) refl (mod-lt (m * up e * down d) (mul-pos (mul-pos N (up-pos d)) (down-pos e)))
+    (rem-value false m n e d F G N))
+rem-within (fin true m e) (fin false n d) F G f p z =
+    let some : 0 < n * up d * down e = mul-pos (mul-pos (ltb→lt 0 n p) (up-pos d)) (down-pos e) in
+    let l : lt (fin true m e) (fin false n d) ≡ true = lt-ltb 0 (m * up e * down d + n * up d * down e) (omega arith) in
+    subst (λ (v : Float). (lt v (fin false n d) ≡ true) × (lt v nought ≡ false)) (sym (rem-below (fin true m e) (fin false n d) F z l)) (l, z)
+
 -- ---- above zero
 
 -- what is above 0.0 and finite is `positive`
@@ -347,7 +466,7 @@ difference (fin false (suc m) e) (fin s n d) F G p z l = go s G z l
     w = g .q * 2 ^ g .j
 
     a-is : a * 2 ^ 1074 ≡ w * c
-    a-is = mul-right-comm (suc m * up e) (down d) (2 ^ 1074) ∙ ap (λ (z : ℕ). z * down d) (g .is) ∙ mul-assoc w (down e) (down d)
+    a-is = scaled binary64 (suc m) e g (down d)
 
     top-is : a * down e ≡ suc m * up e * c
     top-is = mul-right-comm (suc m * up e) (down d) (down e) ∙ mul-assoc (suc m * up e) (down e) (down d)
@@ -361,7 +480,7 @@ difference (fin false (suc m) e) (fin s n d) F G p z l = go s G z l
     go false G z l =
         let h = grid binary64 false n d G in
         let v = h .q * 2 ^ h .j in
-        let b-is : b * 2 ^ 1074 ≡ v * c = mul-right-comm (n * up d) (down e) (2 ^ 1074) ∙ ap (λ (k : ℕ). k * down e) (h .is) ∙ mul-assoc v (down d) (down e) ∙ ap (λ (k : ℕ). v * k) (mul-comm (down d) (down e)) in
+        let b-is : b * 2 ^ 1074 ≡ v * c = scaled binary64 n d h (down e) ∙ ap (λ (k : ℕ). v * k) (mul-comm (down d) (down e)) in
         let q = ltb-true b a l in
         rw (le-ltb a b (le-of-lt q)) (far b v q b-is)
     go true G z l =
