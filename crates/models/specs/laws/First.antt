@@ -1,17 +1,15 @@
--- What the option `pattern_first` promises of a pattern whose times rise from 0.0 on: its first level at its first time, its last level from its end on, the line in between, and never a NaN.
--- Clients cite Rising, Held, Neighbours and the laws. Assumes nothing.
-use Prim.Native.Nat.{ℕ, zero, suc, _+_}
-use mathlib.Core.Path.{_≡_, refl, sym, ap, _∙_, subst}
+-- What the option `pattern_first` promises of a pattern whose times rise from 0.0 on (Rising): the first level up to its first time, the last level from its end on, the line between neighbours, each cycle as the first, and never a NaN.
+-- Clients cite the laws marked pub; those over bytes, which `models.vpwl.level` and the C door read, stand last. Assumes nothing.
+use Prim.Native.Nat.{ℕ, suc, _+_, _≤_, _<_}
+use mathlib.Core.Path.{_≡_, refl, sym, ap, _∙_}
 use mathlib.Core.Logic.{_⊎_, inl, inr, ⊎-elim}
-use mathlib.Core.Bool.{Bool, true, false, not, _&&_, cond}
+use mathlib.Core.Bool.{Bool, true, false, _&&_, _||_, cond}
 use mathlib.Core.List.{List, [], _∷_}
 use lib.Dec.{T}
-use lib.Ieee.{Float, binary64, rem, lt, le, fits, isNan, ofBits}
+use lib.Ieee.{Float, binary64, rem, lt, le, eq, fits, isNan, ofBits}
 use lib.Ieee.Fits.{sub-fits, rem-fits}
 use lib.Ieee.Positive.{positive}
 use lib.Ieee.Scale.{finite}
-use lib.Ieee.Bits.{ofBits-fits}
-use Rattle.num.specs.Le.{floatAt}
 use Rattle.num.specs.Floats.{nought}
 use Rattle.num.specs.laws.Less.{no, lt-self, lt-trans, lt-either}
 use Rattle.models.specs.Signs.{_⊕_, _⊖_}
@@ -19,20 +17,34 @@ use Rattle.models.specs.declared.vpwl.Point.{Point}
 use Rattle.models.specs.declared.vpwl.Segment.{Segment}
 use Rattle.models.specs.Vpwl.{pointAt, pointsFrom, lastOf, between, orZero, levelOn, pastEnd, levelAt, patternAt, single, atEnd, patternFirst, patternOf}
 use Rattle.models.specs.laws.Points.{last-at, further, found}
-use Rattle.models.specs.laws.Held.{from-zero, refuted, lt-le, less-zero, zero-plus, rem-below, rem-within, positive-of, rem-positive, difference, finite-number, cond-number, add-number, mul-number}
+use Rattle.models.specs.laws.Binary64.{from-zero, refuted, lt-le, less-zero, zero-plus, self-zero, rem-nought, rem-below, rem-within, positive-of, rem-positive, difference, finite-number, cond-number, add-number, mul-number}
+use Rattle.models.specs.laws.Rising.{FinitePoint, Rising, TimesFit, Neighbours, segment, RisingBytes, next, alone-or-above, several, last-finite, last-start, last-fits, since-first, more-than-one, first-below, finds, times-read, rising-read, neighbours-read}
 
 -- ---- the option
 
--- off, it is the rule as before; on, the rule of this file
+-- off, a pattern is as before
 pub off : (ps : List Point) (delay repeat t : Float) → patternOf false ps delay repeat t ≡ patternAt ps delay repeat t
 unfolding patternOf
 off ps delay repeat t = refl
 
+-- on, it is by the rule of this file
 pub on : (ps : List Point) (delay repeat t : Float) → patternOf true ps delay repeat t ≡ patternFirst ps delay repeat t
 unfolding patternOf
 on ps delay repeat t = refl
 
--- ---- the rule's sentences, for any points, delay and time
+-- ---- the rule's sentences, for any points, delay, repeat and time
+
+-- the time since the delay, less whole cycles
+abbrev pub cycleTime : Point → List Point → Float → Float → Float
+cycleTime p ps delay t = rem binary64 (t ⊖ delay) (lastOf p ps .time)
+
+-- the time of the end
+abbrev pub endTime : Point → List Point → Float → Float
+endTime p ps delay = delay ⊕ lastOf p ps .time
+
+same : {A : Type 0} (b : Bool) (x : A) → cond b x x ≡ x
+same true x = refl
+same false x = refl
 
 module _ (delay repeat t : Float) where
   -- "no points: 0"
@@ -46,200 +58,29 @@ module _ (delay repeat t : Float) where
   before-delay [] h = refl
   before-delay (p ∷ ps) h = rw h
 
-  -- "without repeat and at or past its end: the last level"
-  pub at-end : (p : Point) (ps : List Point) → lt t delay ≡ false → atEnd repeat t (delay ⊕ lastOf p ps .time) ≡ true → patternFirst (p ∷ ps) delay repeat t ≡ lastOf p ps .level
-  unfolding patternFirst
-  at-end p ps h k = rw (h, k)
-
-  -- "a single point: its level"
-  pub one-point : (p : Point) → lt t delay ≡ false → patternFirst (p ∷ []) delay repeat t ≡ p .level
-  unfolding patternFirst lastOf
-  one-point p h = rw h (same (atEnd repeat t (delay ⊕ p .time)))
-    where
-      same : (b : Bool) → cond b (p .level) (p .level) ≡ p .level
-      same true = refl
-      same false = refl
-
-  module _ (p : Point) (ps : List Point) (since : lt t delay ≡ false) (before : atEnd repeat t (delay ⊕ lastOf p ps .time) ≡ false) where
-    -- "a cycle time not above the first point's: the first level"
-    pub to-first : lt (p .time) (rem binary64 (t ⊖ delay) (lastOf p ps .time)) ≡ false → patternFirst (p ∷ ps) delay repeat t ≡ p .level
+  module _ (p : Point) (ps : List Point) (since : lt t delay ≡ false) where
+    -- "without repeat and at or past its end: the last level"
+    pub at-end : atEnd repeat t (endTime p ps delay) ≡ true → patternFirst (p ∷ ps) delay repeat t ≡ lastOf p ps .level
     unfolding patternFirst
-    to-first h = rw (since, before, h) (same (single ps))
-      where
-        same : (b : Bool) → cond b (p .level) (p .level) ≡ p .level
-        same true = refl
-        same false = refl
+    at-end h = rw (since, h)
 
-    -- "then as before"
-    pub then-as-before : single ps ≡ false → lt (p .time) (rem binary64 (t ⊖ delay) (lastOf p ps .time)) ≡ true → patternFirst (p ∷ ps) delay repeat t ≡ patternAt (p ∷ ps) delay repeat t
-    unfolding patternFirst
-    then-as-before s h = rw (since, before, s, h)
+    -- "a single point: its level"
+    pub one-point : ps ≡ [] → patternFirst (p ∷ ps) delay repeat t ≡ p .level
+    unfolding patternFirst lastOf
+    one-point e = rw (e, since) (same (atEnd repeat t (delay ⊕ p .time)) (p .level))
 
--- ---- the points of the promise
+    module _ (before : atEnd repeat t (endTime p ps delay) ≡ false) where
+      -- "a cycle time not above the first point's: the first level"
+      pub to-first : lt (p .time) (cycleTime p ps delay t) ≡ false → patternFirst (p ∷ ps) delay repeat t ≡ p .level
+      unfolding patternFirst
+      to-first h = rw (since, before, h) (same (single ps) (p .level))
 
--- a point whose time and level are finite numbers
-pub record Finite (p : Point) : Type 0 where
-  pub time : T (finite (p .time))
-  pub level : T (finite (p .level))
+      -- "then as before"
+      pub then-as-before : single ps ≡ false → lt (p .time) (cycleTime p ps delay t) ≡ true → patternFirst (p ∷ ps) delay repeat t ≡ patternAt (p ∷ ps) delay repeat t
+      unfolding patternFirst
+      then-as-before s h = rw (since, before, s, h)
 
--- after p each point is finite, and its time is above the one before
-abbrev pub Climbing : Point → List Point → Type 0
-Climbing p [] = Unit
-Climbing p (q ∷ qs) = (lt (p .time) (q .time) ≡ true) × Finite q × Climbing q qs
-
--- finite points, p the first: its time is not below 0.0, and each time is above the one before
-pub record Rising (p : Point) (ps : List Point) : Type 0 where
-  pub first : Finite p
-  pub start : lt (p .time) nought ≡ false
-  pub climbing : Climbing p ps
-
--- each time is a number of binary64, as is every float that a function takes, reads or makes
-abbrev pub Held : List Point → Type 0
-Held [] = Unit
-Held (p ∷ ps) = T (fits binary64 (p .time)) × Held ps
-
--- so it is of points read from bytes
-pub read-held : (s : List ℕ) (k n : ℕ) → Held (pointsFrom s k n)
-unfolding pointsFrom pointAt floatAt
-read-held s k zero = tt
-read-held s k (suc n) = (ofBits-fits binary64 _, read-held s (k + 1) n)
-
-last-above : (p q : Point) (qs : List Point) → Climbing p (q ∷ qs) → lt (p .time) (lastOf q qs .time) ≡ true
-unfolding lastOf
-last-above p q [] c = c .0
-last-above p q (r ∷ rs) c = lt-trans (p .time) (q .time) (lastOf r rs .time) (c .0) (last-above q r rs (c .2))
-
-last-finite : (p : Point) (ps : List Point) → Finite p → Climbing p ps → Finite (lastOf p ps)
-unfolding lastOf
-last-finite p [] f c = f
-last-finite p (q ∷ qs) f c = last-finite q qs (c .1) (c .2)
-
-last-held : (p : Point) (ps : List Point) → Held (p ∷ ps) → T (fits binary64 (lastOf p ps .time))
-unfolding lastOf
-last-held p [] h = h .0
-last-held p (q ∷ qs) h = last-held q qs (h .1)
-
--- what is above a number that is not below 0.0 is not below 0.0 either
-still : (q z : Float) → lt q nought ≡ false → lt q z ≡ true → lt z nought ≡ false
-still q z h p = refuted (lt z nought) (λ u. no (sym h ∙ lt-trans q z nought p u))
-
--- a and b are neighbours among p and the points after it
-pub data Neighbours (a b : Point) : Point → List Point → Type 0 where
-  here : {qs : List Point} → Neighbours a b a (b ∷ qs)
-  later : {p q : Point} {qs : List Point} → Neighbours a b q qs → Neighbours a b p (q ∷ qs)
-
-first-below : {a b p : Point} {ps : List Point} (t : Float) → Neighbours a b p ps → Climbing p ps → lt (a .time) t ≡ true → lt (p .time) t ≡ true
-first-below t here c h = h
-first-below t (later {p = p} {q = q} n) c h = lt-trans (p .time) (q .time) t (c .0) (first-below t n (c .2) h)
-
--- the line from a to b
-abbrev pub segment : Point → Point → Segment
-segment a b = record { t1 = a .time; v1 = a .level; t2 = b .time; v2 = b .level }
-
--- t lies between these neighbours: the search finds them
-finds : {a b p : Point} {ps : List Point} (t t1 v1 : Float) → Neighbours a b p ps → Climbing p ps → lt (a .time) t ≡ true → lt (b .time) t ≡ false → between t t1 v1 (p ∷ ps) ≡ segment a b
-finds {a} {b} t t1 v1 (here {qs = qs}) c h k = further t t1 v1 a (b ∷ qs) h ∙ found t (a .time) (a .level) b qs k
-finds {a} {b} t t1 v1 (later {p = p} {q = q} {qs = qs} n) c h k = further t t1 v1 p (q ∷ qs) (first-below {p = p} t (later n) c h) ∙ finds t (p .time) (p .level) n (c .2) h k
-
--- ---- delay 0.0
-
-and-no : (a b : Bool) → b ≡ false → (a && b) ≡ false
-and-no true b h = h
-and-no false b h = refl
-
--- p is alone, or the last time is above the first
-alone-or-above : (p : Point) (ps : List Point) → Climbing p ps → (ps ≡ []) ⊎ (lt (p .time) (lastOf p ps .time) ≡ true)
-unfolding lastOf
-alone-or-above p [] c = inl refl
-alone-or-above p (q ∷ qs) c = inr (last-above p q qs c)
-
-several : (p : Point) (ps : List Point) → lt (p .time) (lastOf p ps .time) ≡ true → single ps ≡ false
-unfolding lastOf
-several p [] h = no (sym (lt-self (p .time)) ∙ h)
-several p (q ∷ qs) h = refl
-
-module _ (p : Point) (ps : List Point) (held : Held (p ∷ ps)) (rising : Rising p ps) (repeat : Float) where
-  -- where the last time is above the first, it is the end
-  end-is : lt (p .time) (lastOf p ps .time) ≡ true → nought ⊕ lastOf p ps .time ≡ lastOf p ps .time
-  end-is l = zero-plus (lastOf p ps .time) (last-held p ps held) (from-zero (p .time) (lastOf p ps .time) (rising .start) l)
-
-  module _ (t : Float) (fit : T (fits binary64 t)) (below-end : lt t (lastOf p ps .time) ≡ true) (above-zero : lt t nought ≡ false) where
-    -- before the end a time is its own cycle time
-    cycle-is : rem binary64 (t ⊖ nought) (lastOf p ps .time) ≡ t
-    cycle-is = rw (less-zero t fit) (rem-below t (lastOf p ps .time) fit above-zero below-end)
-
-    not-at-end : lt (p .time) (lastOf p ps .time) ≡ true → atEnd repeat t (nought ⊕ lastOf p ps .time) ≡ false
-    not-at-end l = and-no (lt repeat nought) (le (nought ⊕ lastOf p ps .time) t) (rw (end-is l) (lt-le t (lastOf p ps .time) below-end))
-
-  -- from 0.0 to the first point's time the first level, exactly
-  pub until-first : (t : Float) → T (fits binary64 t) → T (finite t) → lt t nought ≡ false → lt (p .time) t ≡ false → patternFirst (p ∷ ps) nought repeat t ≡ p .level
-  until-first t fit f z h =
-      let l = lastOf p ps .time in
-      let early : lt (p .time) l ≡ true → lt t l ≡ true = λ u. ⊎-elim (λ v. no (sym h ∙ v)) (λ v. v) (lt-either (p .time) l t f u) in
-      ⊎-elim
-      (λ e. rw e (one-point nought repeat t p z))
-      (λ u. to-first nought repeat t p ps z (not-at-end t fit (early u) z u) (rw (cycle-is t fit (early u) z) h))
-      (alone-or-above p ps (rising .climbing))
-
-  -- so at that time
-  pub at-first : patternFirst (p ∷ ps) nought repeat (p .time) ≡ p .level
-  at-first = until-first (p .time) (held .0) (rising .first .time) (rising .start) (lt-self (p .time))
-
-  last-start : lt (lastOf p ps .time) nought ≡ false
-  unfolding lastOf
-  last-start = ⊎-elim (λ e. rw e (rising .start)) (λ u. still (p .time) (lastOf p ps .time) (rising .start) u) (alone-or-above p ps (rising .climbing))
-
-  -- without repeat, from the last point's time on the last level, exactly
-  pub from-end : (t : Float) → lt repeat nought ≡ true → le (lastOf p ps .time) t ≡ true → patternFirst (p ∷ ps) nought repeat t ≡ lastOf p ps .level
-  unfolding lastOf
-  from-end t r h =
-      let l = lastOf p ps .time in
-      let early : lt t nought ≡ true → ⊥ = λ u. ⊎-elim (λ v. no (sym (lt-le t l v) ∙ h)) (λ v. no (sym last-start ∙ v)) (lt-either t nought l (last-finite p ps (rising .first) (rising .climbing) .time) u) in
-      let since : lt t nought ≡ false = refuted (lt t nought) early in
-      ⊎-elim
-      (λ e. rw e (one-point nought repeat t p since))
-      (λ u. at-end nought repeat t p ps since (rw (r, end-is u) h))
-      (alone-or-above p ps (rising .climbing))
-
-  module _ (t : Float) (fit : T (fits binary64 t)) (after : lt (p .time) t ≡ true) (below-end : lt t (lastOf p ps .time) ≡ true) where
-    since-zero : lt t nought ≡ false
-    since-zero = still (p .time) t (rising .start) after
-
-    rises : lt (p .time) (lastOf p ps .time) ≡ true
-    rises = lt-trans (p .time) t (lastOf p ps .time) after below-end
-
-    -- between the first time and the last, as before
-    pub in-between : patternFirst (p ∷ ps) nought repeat t ≡ patternAt (p ∷ ps) nought repeat t
-    in-between = then-as-before nought repeat t p ps since-zero (not-at-end t fit below-end since-zero rises) (several p ps rises) (rw (cycle-is t fit below-end since-zero) after)
-
-    -- which is the line through two of the points
-    found-line : patternFirst (p ∷ ps) nought repeat t ≡ levelOn (between t nought nought (p ∷ ps)) t
-    unfolding patternAt levelAt
-    found-line =
-        let l = lastOf p ps .time in
-        let past : pastEnd repeat t (nought ⊕ l) ≡ false = and-no (lt repeat nought) (lt (nought ⊕ l) t) (rw (end-is rises) (refuted (lt l t) (λ u. no (sym (lt-self t) ∙ lt-trans t l t below-end u)))) in
-        in-between ∙ rw (past, cycle-is t fit below-end since-zero, since-zero)
-
-  -- from one point to the next, the line through the two, at the later one's time too if it is not the last
-  pub on-line : (a b : Point) → Neighbours a b p ps → (t : Float) → T (fits binary64 t) → lt (a .time) t ≡ true → lt (b .time) t ≡ false → lt t (lastOf p ps .time) ≡ true
-      → patternFirst (p ∷ ps) nought repeat t ≡ levelOn (segment a b) t
-  on-line a b n t fit h k l =
-      found-line t fit (first-below t n (rising .climbing) h) l ∙ ap (λ (s : Segment). levelOn s t) (finds t nought nought n (rising .climbing) h k)
-
-  -- with repeat, a time and its cycle time have the same level
-  pub each-cycle : (t : Float) → T (fits binary64 t) → T (finite t) → lt t nought ≡ false → lt (p .time) (lastOf p ps .time) ≡ true → lt repeat nought ≡ false
-      → patternFirst (p ∷ ps) nought repeat t ≡ patternFirst (p ∷ ps) nought repeat (rem binary64 t (lastOf p ps .time))
-  unfolding patternFirst patternAt levelAt
-  each-cycle t fit f z u r =
-      let l = lastOf p ps .time in
-      let tc = rem binary64 t l in
-      let end = positive-of l (from-zero (p .time) l (rising .start) u) (last-finite p ps (rising .first) (rising .climbing) .time) in
-      let w = rem-within t l fit (last-held p ps held) f end z in
-      let fit′ = rem-fits binary64 t l fit in
-      let again : rem binary64 tc l ≡ tc = rem-below tc l fit′ (w .1) (w .0) in
-      rw (z, w .1, r, less-zero t fit, less-zero tc fit′, again)
-
--- ---- never a NaN, whatever the delay, the repeat and the time
+-- ---- times that rise, and any delay
 
 nought-number : isNan nought ≡ false
 unfolding isNan ofBits
@@ -257,18 +98,25 @@ either : (b : Bool) → (b ≡ true) ⊎ (b ≡ false)
 either true = inl refl
 either false = inr refl
 
-next : {p q : Point} {qs : List Point} → Rising p (q ∷ qs) → Rising q qs
-next {p} {q} r = record { first = r .climbing .1; start = still (p .time) (q .time) (r .start) (r .climbing .0); climbing = r .climbing .2 }
+-- before its end a pattern is not past it
+not-past : (repeat t end : Float) → atEnd repeat t end ≡ false → pastEnd repeat t end ≡ false
+unfolding le
+not-past repeat t end = go (lt repeat nought) (lt end t) (eq end t)
+  where
+    go : (a b c : Bool) → (a && (b || c)) ≡ false → (a && b) ≡ false
+    go true true c h = h
+    go true false c h = refl
+    go false b c h = refl
 
 module _ (tc : Float) (fit : T (fits binary64 tc)) (some : T (positive tc)) where
-  -- on a line that starts at a point before the cycle time
-  line-number : (p : Point) (t2 v2 : Float) → T (fits binary64 (p .time)) → Finite p → lt (p .time) nought ≡ false → lt (p .time) tc ≡ true
+  -- no NaN on a line that starts at a point before the cycle time
+  line-number : (p : Point) (t2 v2 : Float) → T (fits binary64 (p .time)) → FinitePoint p → lt (p .time) nought ≡ false → lt (p .time) tc ≡ true
       → isNan (levelOn (record { t1 = p .time; v1 = p .level; t2 = t2; v2 = v2 }) tc) ≡ false
   unfolding levelOn
   line-number p t2 v2 h f z l = add-number _ (p .level) (mul-number _ (tc ⊖ p .time) (or-zero-number _) (difference tc (p .time) fit h some z l)) (f .level)
 
-  -- and so on each that the search can find
-  level-number : (p : Point) (ps : List Point) → Held (p ∷ ps) → Rising p ps → lt (p .time) tc ≡ true → isNan (levelOn (between tc (p .time) (p .level) ps) tc) ≡ false
+  -- so on none that the search can find
+  level-number : (p : Point) (ps : List Point) → TimesFit (p ∷ ps) → Rising p ps → lt (p .time) tc ≡ true → isNan (levelOn (between tc (p .time) (p .level) ps) tc) ≡ false
   level-number p [] h r l = unfold between in line-number p nought nought (h .0) (r .first) (r .start) l
   level-number p (q ∷ qs) h r l =
       ⊎-elim
@@ -276,39 +124,152 @@ module _ (tc : Float) (fit : T (fits binary64 tc)) (some : T (positive tc)) wher
       (λ e. rw (found tc (p .time) (p .level) q qs e) (line-number p (q .time) (q .level) (h .0) (r .first) (r .start) l))
       (either (lt (q .time) tc))
 
-module _ (p : Point) (ps : List Point) (held : Held (p ∷ ps)) (rising : Rising p ps) (delay repeat t : Float) where
-  abbrev tc : Float
-  tc = rem binary64 (t ⊖ delay) (lastOf p ps .time)
+module _ (p : Point) (ps : List Point) (fit : TimesFit (p ∷ ps)) (rising : Rising p ps) (delay repeat : Float) where
+  -- at the delay, if the end is later, the first level, exactly
+  pub at-delay : T (finite delay) → atEnd repeat delay (endTime p ps delay) ≡ false → patternFirst (p ∷ ps) delay repeat delay ≡ p .level
+  at-delay f b =
+      let tc = cycleTime p ps delay delay in
+      let z : lt nought tc ≡ false = rw (self-zero delay f) (rem-nought (lastOf p ps .time)) in
+      to-first delay repeat delay p ps (lt-self delay) b (refuted (lt (p .time) tc) (λ u. no (sym z ∙ from-zero (p .time) tc (rising .start) u)))
 
-  last-number : isNan (lastOf p ps .level) ≡ false
-  last-number = finite-number (lastOf p ps .level) (last-finite p ps (rising .first) (rising .climbing) .level)
+  module _ (t : Float) where
+    -- where the cycle time lies between two neighbours, the level on the line through the two
+    pub on-cycle-line : lt t delay ≡ false → atEnd repeat t (endTime p ps delay) ≡ false → (a b : Point) → Neighbours a b p ps → lt (a .time) (cycleTime p ps delay t) ≡ true → lt (b .time) (cycleTime p ps delay t) ≡ false
+        → patternFirst (p ∷ ps) delay repeat t ≡ levelOn (segment a b) (cycleTime p ps delay t)
+    unfolding patternAt levelAt
+    on-cycle-line s e a b n h k =
+        let tc = cycleTime p ps delay t in
+        let l = first-below tc n (rising .climbing) h in
+        then-as-before delay repeat t p ps s e (more-than-one n) l
+        ∙ rw (not-past repeat t (endTime p ps delay) e, since-first p ps tc rising l, finds tc nought nought n (rising .climbing) h k)
 
-  first-number : isNan (p .level) ≡ false
-  first-number = finite-number (p .level) (rising .first .level)
+    last-number : isNan (lastOf p ps .level) ≡ false
+    last-number = finite-number (lastOf p ps .level) (last-finite p ps rising .level)
 
-  line-of-two : lt (p .time) tc ≡ true → isNan (levelOn (between tc nought nought (p ∷ ps)) tc) ≡ false
-  line-of-two h =
-      let fit = sub-fits binary64 t delay in
-      let z = from-zero (p .time) tc (rising .start) h in
-      rw (further tc nought nought p ps h) (level-number tc (rem-fits binary64 (t ⊖ delay) (lastOf p ps .time) fit) (rem-positive (t ⊖ delay) (lastOf p ps .time) fit z) p ps held rising h)
+    first-number : isNan (p .level) ≡ false
+    first-number = finite-number (p .level) (rising .first .level)
 
-  before-number : lt (p .time) tc ≡ true → isNan (patternAt (p ∷ ps) delay repeat t) ≡ false
-  unfolding patternAt levelAt
-  before-number h = cond-number (pastEnd repeat t (delay ⊕ lastOf p ps .time)) _ _ last-number (cond-number (lt tc nought) _ _ nought-number (line-of-two h))
+    line-of-two : lt (p .time) (cycleTime p ps delay t) ≡ true → isNan (levelOn (between (cycleTime p ps delay t) nought nought (p ∷ ps)) (cycleTime p ps delay t)) ≡ false
+    line-of-two h =
+        let tc = cycleTime p ps delay t in
+        let f = sub-fits binary64 t delay in
+        let z = from-zero (p .time) tc (rising .start) h in
+        rw (further tc nought nought p ps h) (level-number tc (rem-fits binary64 (t ⊖ delay) (lastOf p ps .time) f) (rem-positive (t ⊖ delay) (lastOf p ps .time) f z) p ps fit rising h)
 
-  -- the level is never a NaN
-  pub never-nan : isNan (patternFirst (p ∷ ps) delay repeat t) ≡ false
-  never-nan = ⊎-elim (λ h. rw (before-delay delay repeat t (p ∷ ps) h) nought-number) since (either (lt t delay))
-    where
-      among : lt t delay ≡ false → atEnd repeat t (delay ⊕ lastOf p ps .time) ≡ false → lt (p .time) (lastOf p ps .time) ≡ true → isNan (patternFirst (p ∷ ps) delay repeat t) ≡ false
-      among s b u =
-          ⊎-elim
-          (λ h. rw (then-as-before delay repeat t p ps s b (several p ps u) h) (before-number h))
-          (λ h. rw (to-first delay repeat t p ps s b h) first-number)
-          (either (lt (p .time) tc))
+    before-number : lt (p .time) (cycleTime p ps delay t) ≡ true → isNan (patternAt (p ∷ ps) delay repeat t) ≡ false
+    unfolding patternAt levelAt
+    before-number h = cond-number (pastEnd repeat t (endTime p ps delay)) _ _ last-number (cond-number (lt (cycleTime p ps delay t) nought) _ _ nought-number (line-of-two h))
 
-      before : lt t delay ≡ false → atEnd repeat t (delay ⊕ lastOf p ps .time) ≡ false → isNan (patternFirst (p ∷ ps) delay repeat t) ≡ false
-      before s b = ⊎-elim (λ e. rw e (rw (one-point delay repeat t p s) first-number)) (among s b) (alone-or-above p ps (rising .climbing))
+    -- whatever the delay, the repeat and the time, infinities and NaN included, the level is no NaN
+    pub never-nan : isNan (patternFirst (p ∷ ps) delay repeat t) ≡ false
+    never-nan = ⊎-elim (λ h. rw (before-delay delay repeat t (p ∷ ps) h) nought-number) since (either (lt t delay))
+      where
+        among : lt t delay ≡ false → atEnd repeat t (endTime p ps delay) ≡ false → lt (p .time) (lastOf p ps .time) ≡ true → isNan (patternFirst (p ∷ ps) delay repeat t) ≡ false
+        among s b u =
+            ⊎-elim
+            (λ h. rw (then-as-before delay repeat t p ps s b (several p ps u) h) (before-number h))
+            (λ h. rw (to-first delay repeat t p ps s b h) first-number)
+            (either (lt (p .time) (cycleTime p ps delay t)))
 
-      since : lt t delay ≡ false → isNan (patternFirst (p ∷ ps) delay repeat t) ≡ false
-      since s = ⊎-elim (λ h. rw (at-end delay repeat t p ps s h) last-number) (before s) (either (atEnd repeat t (delay ⊕ lastOf p ps .time)))
+        before : lt t delay ≡ false → atEnd repeat t (endTime p ps delay) ≡ false → isNan (patternFirst (p ∷ ps) delay repeat t) ≡ false
+        before s b = ⊎-elim (λ e. rw (one-point delay repeat t p ps s e) first-number) (among s b) (alone-or-above p ps (rising .climbing))
+
+        since : lt t delay ≡ false → isNan (patternFirst (p ∷ ps) delay repeat t) ≡ false
+        since s = ⊎-elim (λ h. rw (at-end delay repeat t p ps s h) last-number) (before s) (either (atEnd repeat t (endTime p ps delay)))
+
+-- ---- times that rise, and a delay of 0.0
+
+and-no : (a b : Bool) → b ≡ false → (a && b) ≡ false
+and-no true b h = h
+and-no false b h = refl
+
+module _ (p : Point) (ps : List Point) (fit : TimesFit (p ∷ ps)) (rising : Rising p ps) (repeat : Float) where
+  -- where the last time is above the first, it is the end
+  end-is : lt (p .time) (lastOf p ps .time) ≡ true → endTime p ps nought ≡ lastOf p ps .time
+  end-is l = zero-plus (lastOf p ps .time) (last-fits p ps fit) (from-zero (p .time) (lastOf p ps .time) (rising .start) l)
+
+  module _ (t : Float) (held : T (fits binary64 t)) (below-end : lt t (lastOf p ps .time) ≡ true) (from-start : lt t nought ≡ false) where
+    -- before the end a time is its own cycle time
+    cycle-is : cycleTime p ps nought t ≡ t
+    cycle-is = rw (less-zero t held) (rem-below t (lastOf p ps .time) held from-start below-end)
+
+    not-at-end : lt (p .time) (lastOf p ps .time) ≡ true → atEnd repeat t (endTime p ps nought) ≡ false
+    not-at-end l = and-no (lt repeat nought) (le (endTime p ps nought) t) (rw (end-is l) (lt-le t (lastOf p ps .time) below-end))
+
+  -- from 0.0 to the first point's time the first level, exactly
+  pub until-first : (t : Float) → T (fits binary64 t) → T (finite t) → lt t nought ≡ false → lt (p .time) t ≡ false → patternFirst (p ∷ ps) nought repeat t ≡ p .level
+  until-first t held f z h =
+      let l = lastOf p ps .time in
+      let early : lt (p .time) l ≡ true → lt t l ≡ true = λ u. ⊎-elim (λ v. no (sym h ∙ v)) (λ v. v) (lt-either (p .time) l t f u) in
+      ⊎-elim
+      (one-point nought repeat t p ps z)
+      (λ u. to-first nought repeat t p ps z (not-at-end t held (early u) z u) (rw (cycle-is t held (early u) z) h))
+      (alone-or-above p ps (rising .climbing))
+
+  -- so at that time
+  pub at-first : patternFirst (p ∷ ps) nought repeat (p .time) ≡ p .level
+  at-first = until-first (p .time) (fit .0) (rising .first .time) (rising .start) (lt-self (p .time))
+
+  -- without repeat, from the last point's time on the last level, exactly
+  pub from-end : (t : Float) → lt repeat nought ≡ true → le (lastOf p ps .time) t ≡ true → patternFirst (p ∷ ps) nought repeat t ≡ lastOf p ps .level
+  unfolding lastOf
+  from-end t r h =
+      let l = lastOf p ps .time in
+      let early : lt t nought ≡ true → ⊥ = λ u. ⊎-elim (λ v. no (sym (lt-le t l v) ∙ h)) (λ v. no (sym (last-start p ps rising) ∙ v)) (lt-either t nought l (last-finite p ps rising .time) u) in
+      let since : lt t nought ≡ false = refuted (lt t nought) early in
+      ⊎-elim
+      (λ e. one-point nought repeat t p ps since e ∙ rw e)
+      (λ u. at-end nought repeat t p ps since (rw (r, end-is u) h))
+      (alone-or-above p ps (rising .climbing))
+
+  module _ (t : Float) (held : T (fits binary64 t)) (below-end : lt t (lastOf p ps .time) ≡ true) where
+    -- between the first time and the last, as before
+    pub in-between : lt (p .time) t ≡ true → patternFirst (p ∷ ps) nought repeat t ≡ patternAt (p ∷ ps) nought repeat t
+    in-between h =
+        let z = since-first p ps t rising h in
+        let u = lt-trans (p .time) t (lastOf p ps .time) h below-end in
+        then-as-before nought repeat t p ps z (not-at-end t held below-end z u) (several p ps u) (rw (cycle-is t held below-end z) h)
+
+    -- above one point's time and not above the next one's, the level on the line through the two
+    pub on-line : (a b : Point) → Neighbours a b p ps → lt (a .time) t ≡ true → lt (b .time) t ≡ false → patternFirst (p ∷ ps) nought repeat t ≡ levelOn (segment a b) t
+    on-line a b n h k =
+        let l = first-below t n (rising .climbing) h in
+        let z = since-first p ps t rising l in
+        let e = cycle-is t held below-end z in
+        rw e at (on-cycle-line p ps fit rising nought repeat t z (not-at-end t held below-end z (lt-trans (p .time) t (lastOf p ps .time) l below-end)) a b n (rw e h) (rw e k))
+
+  -- with repeat and more than one point, the level of a time is that of its cycle time
+  pub each-cycle : (t : Float) → T (fits binary64 t) → T (finite t) → lt t nought ≡ false → lt (p .time) (lastOf p ps .time) ≡ true → lt repeat nought ≡ false
+      → patternFirst (p ∷ ps) nought repeat t ≡ patternFirst (p ∷ ps) nought repeat (rem binary64 t (lastOf p ps .time))
+  unfolding patternFirst patternAt levelAt
+  each-cycle t held f z u r =
+      let l = lastOf p ps .time in
+      let tc = rem binary64 t l in
+      let end = positive-of l (from-zero (p .time) l (rising .start) u) (last-finite p ps rising .time) in
+      let w = rem-within t l held (last-fits p ps fit) f end z in
+      let held′ = rem-fits binary64 t l held in
+      let again : rem binary64 tc l ≡ tc = rem-below tc l held′ (w .1) (w .0) in
+      rw (z, w .1, r, less-zero t held, less-zero tc held′, again)
+
+-- ---- the same of points read from bytes: those from number k to number k + n
+
+module _ (s : List ℕ) (k n : ℕ) (rising : RisingBytes s k n) (repeat : Float) where
+  pub read-first : patternFirst (pointsFrom s k (suc n)) nought repeat (pointAt s k .time) ≡ pointAt s k .level
+  unfolding pointsFrom
+  read-first = at-first (pointAt s k) (pointsFrom s (k + 1) n) (times-read s k (suc n)) (rising-read s k n rising) repeat
+
+  pub read-end : (t : Float) → lt repeat nought ≡ true → le (pointAt s (k + n) .time) t ≡ true → patternFirst (pointsFrom s k (suc n)) nought repeat t ≡ pointAt s (k + n) .level
+  unfolding pointsFrom
+  read-end t r h =
+      from-end (pointAt s k) (pointsFrom s (k + 1) n) (times-read s k (suc n)) (rising-read s k n rising) repeat t r (rw (last-at s k n) h)
+      ∙ ap (λ (q : Point). q .level) (last-at s k n)
+
+  pub read-line : (i : ℕ) → k ≤ i → i < k + n → (t : Float) → T (fits binary64 t) → lt (pointAt s i .time) t ≡ true → lt (pointAt s (i + 1) .time) t ≡ false → lt t (pointAt s (k + n) .time) ≡ true
+      → patternFirst (pointsFrom s k (suc n)) nought repeat t ≡ levelOn (segment (pointAt s i) (pointAt s (i + 1))) t
+  unfolding pointsFrom
+  read-line i a b t held h l e =
+      on-line (pointAt s k) (pointsFrom s (k + 1) n) (times-read s k (suc n)) (rising-read s k n rising) repeat t held (rw (last-at s k n) e) (pointAt s i) (pointAt s (i + 1)) (neighbours-read s k n i a b) h l
+
+  pub read-never-nan : (delay t : Float) → isNan (patternFirst (pointsFrom s k (suc n)) delay repeat t) ≡ false
+  unfolding pointsFrom
+  read-never-nan delay t = never-nan (pointAt s k) (pointsFrom s (k + 1) n) (times-read s k (suc n)) (rising-read s k n rising) delay repeat t

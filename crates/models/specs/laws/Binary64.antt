@@ -4,7 +4,7 @@ use Prim.Native.Nat.{ℕ, zero, suc, _+_, _-_, _*_, _/_, _%_, _^_, _≤_, _<_}
 use mathlib.Core.Path.{_≡_, refl, sym, ap, _∙_, subst}
 use mathlib.Core.Logic.{_⊎_, inl, inr, ⊎-elim}
 use mathlib.Core.Bool.{Bool, true, false, not, _&&_, _||_, Bool·beq, cond}
-use native.Mathlib.Nat.{add-zero, zero-add, sub-zero, sub-le, le-trans, le-of-eq, le-of-lt, lt-irrefl, lt-of-lt-of-le, zero-lt-suc, zero-mul, suc-mul, one-mul, mul-one, mul-comm, mul-assoc, mul-right-comm, mul-sub, mul-pos, mul-le-mul-right, mul-lt-mul-of-pos-right, lt-of-mul-lt-mul-right, mod-eq-of-lt, mod-le, mod-lt, mul-div-cancel, mul-mod-left, lt-of-le-of-lt}
+use native.Mathlib.Nat.{le-refl, zero-mod, add-zero, zero-add, sub-zero, sub-le, le-trans, le-of-eq, le-of-lt, lt-irrefl, lt-of-lt-of-le, zero-lt-suc, zero-mul, suc-mul, one-mul, mul-one, mul-comm, mul-assoc, mul-right-comm, mul-sub, mul-pos, mul-le-mul-right, mul-lt-mul-of-pos-right, lt-of-mul-lt-mul-right, mod-eq-of-lt, mod-le, mod-lt, mul-div-cancel, mul-mod-left, lt-of-le-of-lt}
 use native.Mathlib.Omega.{arith}
 use borrow.Author.Tests.{leb-true, leb-false, ltb-true, ltb-false, lt-ltb, le-ltb, ne-eqb, eqb-true}
 use lib.Arith.{mod-mul}
@@ -191,6 +191,26 @@ zero-plus (fin false m e) h p =
     rw (zero-mul (down e), zero-add (m * up e * 1))
     (own false m e (m * up e * 1) (1 * down e) h (mul-pos (pow-pos 0) (down-pos e)) (mul-assoc (m * up e) 1 (down e)))
 
+-- a finite number less itself
+pub self-zero : (x : Float) → T (finite x) → x ⊖ x ≡ nought
+unfolding sub add sum neg ofBits fits
+self-zero nan f = absurd f
+self-zero (inf s) f = absurd f
+self-zero (fin s m e) f = go s
+  where
+    a : ℕ
+    a = m * up e * down e
+
+    nothing : a - a ≡ 0
+    nothing = omega arith
+
+    none : round binary64 false 0 (down e * down e) ≡ fin false 0 (pos 0)
+    none = own false 0 (pos 0) 0 (down e * down e) tt (mul-pos (down-pos e) (down-pos e)) (sym (zero-mul (down e * down e)))
+
+    go : (s : Bool) → sum binary64 s a (not s) a (down e * down e) ≡ fin false 0 (pos 0)
+    go true = rw (le-ltb a a (le-refl a), nothing) none
+    go false = rw (le-ltb a a (le-refl a), nothing) none
+
 -- ---- `%`
 
 -- a size below the other's stays
@@ -229,6 +249,20 @@ rem-below (inf false) (fin t n d) F z p = no p
 rem-below (fin s m e) nan F z p = no p
 rem-below (fin s m e) (inf t) F z p = refl
 rem-below (fin s m e) (fin t n d) F z p = rem-sizes s t m n e d F z p
+
+-- 0.0 has no remainder above 0.0
+pub rem-nought : (y : Float) → lt nought (rem binary64 nought y) ≡ false
+unfolding lt rem ofBits fits
+rem-nought nan = refl
+rem-nought (inf t) = refl
+rem-nought (fin t n d) = go (eqb n 0)
+  where
+    none : round binary64 false (0 * 1 * down d % (n * up d * 1)) (1 * down d) ≡ nought
+    none = rw (zero-mul (down d), zero-mod (n * up d * 1)) (own false 0 (pos 0) 0 (1 * down d) tt (mul-pos (pow-pos 0) (down-pos d)) (sym (zero-mul (1 * down d))))
+
+    go : (b : Bool) → lt nought (cond b nan (round binary64 false (0 * 1 * down d % (n * up d * 1)) (1 * down d))) ≡ false
+    go true = refl
+    go false = rw none
 
 -- ---- what rounds to a finite number
 
