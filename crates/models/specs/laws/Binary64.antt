@@ -6,7 +6,7 @@ use mathlib.Core.Logic.{_⊎_, inl, inr, ⊎-elim}
 use mathlib.Core.Bool.{Bool, true, false, not, _&&_, _||_, Bool·beq, cond}
 use native.Mathlib.Nat.{le-refl, zero-mod, add-zero, zero-add, sub-zero, sub-le, le-trans, le-of-eq, le-of-lt, lt-irrefl, lt-of-lt-of-le, zero-lt-suc, zero-mul, suc-mul, one-mul, mul-one, mul-comm, mul-assoc, mul-right-comm, mul-sub, mul-pos, mul-le-mul-right, mul-lt-mul-of-pos-right, lt-of-mul-lt-mul-right, mod-eq-of-lt, mod-le, mod-lt, mul-div-cancel, mul-mod-left, lt-of-le-of-lt}
 use native.Mathlib.Omega.{arith}
-use borrow.Author.Tests.{leb-true, leb-false, ltb-true, ltb-false, lt-ltb, le-ltb, ne-eqb, eqb-true}
+use borrow.Author.Tests.{leb-true, leb-false, ltb-true, ltb-false, lt-ltb, le-ltb, ne-eqb, eq-eqb, eqb-true}
 use lib.Arith.{mod-mul}
 use lib.Dec.{T, ltb, leb, eqb, ltb→lt, leb→le, lt→ltb}
 use lib.IntN.{ℤ, pos, negsuc}
@@ -263,6 +263,20 @@ rem-nought (fin t n d) = go (eqb n 0)
     go : (b : Bool) → lt nought (cond b nan (round binary64 false (0 * 1 * down d % (n * up d * 1)) (1 * down d))) ≡ false
     go true = refl
     go false = rw none
+
+-- the remainder by a zero is a NaN
+pub rem-zero : (x y : Float) → T (finite y) → lt y nought ≡ false → lt nought y ≡ false → rem binary64 x y ≡ nan
+unfolding lt rem ofBits
+rem-zero x nan f h k = absurd f
+rem-zero x (inf t) f h k = absurd f
+rem-zero nan (fin t n d) f h k = refl
+rem-zero (inf s) (fin t n d) f h k = refl
+rem-zero (fin s m e) (fin t n d) f h k = rw (eq-eqb n 0 (go t n h k))
+  where
+    go : (t : Bool) (n : ℕ) → lt (fin t n d) nought ≡ false → lt nought (fin t n d) ≡ false → n ≡ 0
+    go t zero h k = refl
+    go true (suc n) h k = absurd (omega (arith, zero-size (suc n) d h, mul-pos (zero-lt-suc n) (up-pos d)))
+    go false (suc n) h k = absurd (omega (arith, ltb-false (0 * 1 * down d) (suc n * up d * 1) k, zero-mul (down d), mul-one (suc n * up d), mul-pos (zero-lt-suc n) (up-pos d)))
 
 -- ---- what rounds to a finite number
 

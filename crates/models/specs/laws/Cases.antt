@@ -6,6 +6,7 @@ use Rattle.num.specs.Floats.{nought, absoluteOf}
 use Rattle.models.specs.declared.vpwl.Point.{Point}
 use Rattle.num.specs.Literals.{half, one, two, three, four, five, six, minusTwo, minusZero, infinity}
 use Rattle.models.specs.Vpwl.{patternAt, patternFirst, levelAt, levelOn, lastOf, between, orZero}
+use Rattle.models.specs.laws.Rising.{Rising}
 use Rattle.models.specs.Capacitor.{companionOf}
 use Rattle.models.specs.Diode.{limited, floored}
 
@@ -20,6 +21,9 @@ fortyNine = ofBits binary64 0x4048_8000_0000_0000
 
 abbrev ninetyEight : Float
 ninetyEight = ofBits binary64 0x4058_8000_0000_0000
+
+abbrev highest : Float
+highest = ofBits binary64 0x7fef_ffff_ffff_ffff
 
 abbrev belowOne : Float
 belowOne = ofBits binary64 0x3fef_ffff_ffff_ffff
@@ -86,15 +90,25 @@ case-line : map (λ (f : List Point → Float → Float → Float → Float). f 
 unfolding patternFirst patternAt levelAt levelOn lastOf between orZero ofBits add sub mul div rem neg lt le isNan
 case-line = refl
 
--- times that do not rise are not refused: (0,3), (-1,4) has a last time below zero, so without repeat every time from 0 on is past its end
+-- the points of case h meet the premise of the promises
+case-rising : Rising (point nought three) (point one four ∷ [])
+unfolding ofBits lt
+case-rising = record { first = record { time = tt; level = tt }; start = refl; climbing = (refl, record { time = tt; level = tt }, tt) }
+
+-- not promised: times that do not rise run too; (0,3), (-1,4) ends before it starts, so without repeat every time from 0 on has the last level
 case-falling : map (patternFirst (point nought three ∷ point (neg one) four ∷ []) nought (neg one)) (nought ∷ half ∷ []) ≡ four ∷ four ∷ []
 unfolding patternFirst patternAt levelAt levelOn lastOf between orZero ofBits add sub mul div rem neg lt le isNan
 case-falling = refl
 
--- nor levels that are not finite: halfway from 3 to infinity is infinity, and from infinity to 3 a NaN
+-- not promised: levels that are not finite; halfway from 3 to infinity is infinity, and from infinity to 3 a NaN
 case-infinite : map (λ (ps : List Point). patternFirst ps nought (neg one) half) ((point nought three ∷ point one infinity ∷ []) ∷ (point nought infinity ∷ point one three ∷ []) ∷ []) ≡ infinity ∷ nan ∷ []
 unfolding patternFirst patternAt levelAt levelOn lastOf between orZero ofBits add sub mul div rem neg lt le isNan
 case-infinite = refl
+
+-- not promised: a first time below zero; from the lowest float to the highest at level 3, the time since the first overflows at 2 ^ 1023, and no slope times infinity is a NaN
+case-overflow : patternFirst (point (neg highest) three ∷ point highest three ∷ []) nought (neg one) (ofBits binary64 0x7fe0_0000_0000_0000) ≡ nan
+unfolding patternFirst patternAt levelAt levelOn lastOf between orZero ofBits add sub mul div rem neg lt le isNan
+case-overflow = refl
 
 -- "i: C 1, step 0.5, 3 V: g 2, i 6"
 case-i : companionOf one three half ≡ record { g = two; i = six }

@@ -17,7 +17,7 @@ use Rattle.models.specs.declared.vpwl.Point.{Point}
 use Rattle.models.specs.declared.vpwl.Segment.{Segment}
 use Rattle.models.specs.Vpwl.{pointAt, pointsFrom, lastOf, between, orZero, levelOn, pastEnd, levelAt, patternAt, single, atEnd, patternFirst, patternOf}
 use Rattle.models.specs.laws.Points.{last-at, further, found}
-use Rattle.models.specs.laws.Binary64.{from-zero, refuted, lt-le, less-zero, zero-plus, self-zero, rem-nought, rem-below, rem-within, positive-of, rem-positive, difference, finite-number, cond-number, add-number, mul-number}
+use Rattle.models.specs.laws.Binary64.{from-zero, refuted, lt-le, less-zero, zero-plus, self-zero, rem-nought, rem-zero, rem-below, rem-within, positive-of, rem-positive, difference, finite-number, cond-number, add-number, mul-number}
 use Rattle.models.specs.laws.Rising.{FinitePoint, Rising, TimesFit, Neighbours, segment, RisingBytes, next, alone-or-above, several, last-finite, last-start, last-fits, since-first, more-than-one, first-below, finds, times-read, rising-read, neighbours-read}
 
 -- ---- the option
@@ -238,18 +238,31 @@ module _ (p : Point) (ps : List Point) (fit : TimesFit (p ∷ ps)) (rising : Ris
         let e = cycle-is t held below-end z in
         rw e at (on-cycle-line p ps fit rising nought repeat t z (not-at-end t held below-end z (lt-trans (p .time) t (lastOf p ps .time) l below-end)) a b n (rw e h) (rw e k))
 
-  -- with repeat and more than one point, the level of a time is that of its cycle time
-  pub each-cycle : (t : Float) → T (fits binary64 t) → T (finite t) → lt t nought ≡ false → lt (p .time) (lastOf p ps .time) ≡ true → lt repeat nought ≡ false
-      → patternFirst (p ∷ ps) nought repeat t ≡ patternFirst (p ∷ ps) nought repeat (rem binary64 t (lastOf p ps .time))
-  unfolding patternFirst patternAt levelAt
-  each-cycle t held f z u r =
-      let l = lastOf p ps .time in
-      let tc = rem binary64 t l in
-      let end = positive-of l (from-zero (p .time) l (rising .start) u) (last-finite p ps rising .time) in
-      let w = rem-within t l held (last-fits p ps fit) f end z in
-      let held′ = rem-fits binary64 t l held in
-      let again : rem binary64 tc l ≡ tc = rem-below tc l held′ (w .1) (w .0) in
-      rw (z, w .1, r, less-zero t held, less-zero tc held′, again)
+  module _ (t : Float) (held : T (fits binary64 t)) (f : T (finite t)) (since : lt t nought ≡ false) (repeats : lt repeat nought ≡ false) where
+    cycle-again : lt nought (lastOf p ps .time) ≡ true → patternFirst (p ∷ ps) nought repeat t ≡ patternFirst (p ∷ ps) nought repeat (rem binary64 t (lastOf p ps .time))
+    unfolding patternFirst patternAt levelAt
+    cycle-again u =
+        let l = lastOf p ps .time in
+        let tc = rem binary64 t l in
+        let w = rem-within t l held (last-fits p ps fit) f (positive-of l u (last-finite p ps rising .time)) since in
+        let held′ = rem-fits binary64 t l held in
+        let again : rem binary64 tc l ≡ tc = rem-below tc l held′ (w .1) (w .0) in
+        rw (since, w .1, repeats, less-zero t held, less-zero tc held′, again)
+
+    -- where the last time is 0.0 there is one point only
+    no-cycle : lt nought (lastOf p ps .time) ≡ false → patternFirst (p ∷ ps) nought repeat t ≡ patternFirst (p ∷ ps) nought repeat (rem binary64 t (lastOf p ps .time))
+    unfolding lt
+    no-cycle u =
+        let l = lastOf p ps .time in
+        let e = rem-zero t l (last-finite p ps rising .time) (last-start p ps rising) u in
+        ⊎-elim
+        (λ a. one-point nought repeat t p ps since a ∙ sym (one-point nought repeat (rem binary64 t l) p ps (rw e) a))
+        (λ v. no (sym u ∙ from-zero (p .time) l (rising .start) v))
+        (alone-or-above p ps (rising .climbing))
+
+    -- with repeat, the level of a time is that of its cycle time
+    pub each-cycle : patternFirst (p ∷ ps) nought repeat t ≡ patternFirst (p ∷ ps) nought repeat (rem binary64 t (lastOf p ps .time))
+    each-cycle = ⊎-elim cycle-again no-cycle (either (lt nought (lastOf p ps .time)))
 
 -- ---- the same of points read from bytes: those from number k to number k + n
 
