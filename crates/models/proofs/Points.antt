@@ -1,6 +1,6 @@
 -- Laws of a pattern's points: past the end of the bytes a point is (0, 0), a part is its first point and the rest, and the last of a part stands at its end.
 use Prim.Native.Nat.{ℕ, zero, suc, _+_, _-_, _*_, _/_, _<_}
-use mathlib.Core.Path.{_≡_, refl, sym, _∙_}
+use mathlib.Core.Path.{_≡_, refl, sym}
 use mathlib.Core.Bool.{Bool, true, false, not, cond}
 use mathlib.Core.List.{List, _∷_}
 use native.Mathlib.Nat.{add-zero}
@@ -15,7 +15,7 @@ use Rattle.num.specs.Floats.{nought}
 use Rattle.models.specs.Signs.{_⊕_, _⊖_}
 use Rattle.models.specs.declared.vpwl.Point.{Point}
 use Rattle.models.specs.laws.Points.{last-at, further, found}
-use Rattle.models.specs.Vpwl.{pointAt, pointsFrom, lastOf, between, patternAt, levelAt, single, atEnd, patternFirst}
+use Rattle.models.specs.Vpwl.{pointAt, pointsFrom, between, patternAt, levelAt, single, atEnd, patternFirst}
 
 pub past-point : (s : List ℕ) (k : ℕ) → length s / 16 < k → pointAt s k ≡ record { time = nought; level = nought }
 unfolding pointAt floatAt

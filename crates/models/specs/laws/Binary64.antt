@@ -1,23 +1,22 @@
--- Floats that binary64 holds: each is what its value rounds to, so 0.0 taken off, 0.0 added and `%` by a larger number leave it; a difference that is above zero does not round to zero; and which results are no NaN.
--- Clients cite from-zero, lt-le, less-zero, zero-plus, rem-below, rem-positive, difference, and the laws on isNan. Assumes nothing.
+-- Floats that binary64 holds: each is what its value rounds to, so 0.0 taken off or added leaves it; a difference that is above zero does not round to zero; and which results are no NaN.
+-- Clients cite the laws marked pub. Assumes nothing.
 use Prim.Native.Nat.{ℕ, zero, suc, _+_, _-_, _*_, _/_, _%_, _^_, _≤_, _<_}
 use mathlib.Core.Path.{_≡_, refl, sym, ap, _∙_, subst}
-use mathlib.Core.Logic.{_⊎_, inl, inr, ⊎-elim}
+use mathlib.Core.Logic.{⊎-elim}
 use mathlib.Core.Bool.{Bool, true, false, not, _&&_, _||_, Bool·beq, cond}
-use native.Mathlib.Nat.{le-refl, zero-mod, add-zero, zero-add, sub-zero, sub-le, le-trans, le-of-eq, le-of-lt, lt-irrefl, lt-of-lt-of-le, zero-lt-suc, zero-mul, suc-mul, one-mul, mul-one, mul-comm, mul-assoc, mul-right-comm, mul-sub, mul-pos, mul-le-mul-right, mul-lt-mul-of-pos-right, lt-of-mul-lt-mul-right, mod-eq-of-lt, mod-le, mod-lt, mul-div-cancel, mul-mod-left, lt-of-le-of-lt}
+use native.Mathlib.Nat.{le-refl, add-zero, zero-add, sub-zero, sub-le, le-trans, le-of-eq, le-of-lt, lt-irrefl, lt-of-lt-of-le, zero-lt-suc, zero-mul, suc-mul, one-mul, mul-one, mul-comm, mul-assoc, mul-right-comm, mul-sub, mul-pos, mul-le-mul-right, mul-lt-mul-of-pos-right, lt-of-mul-lt-mul-right}
 use native.Mathlib.Omega.{arith}
-use borrow.Author.Tests.{leb-true, leb-false, ltb-true, ltb-false, lt-ltb, le-ltb, ne-eqb, eq-eqb, eqb-true}
-use lib.Arith.{mod-mul}
+use borrow.Author.Tests.{ltb-true, ltb-false, le-ltb, ne-eqb, eqb-true}
 use lib.Dec.{T, ltb, leb, eqb, ltb→lt, leb→le, lt→ltb}
 use lib.IntN.{ℤ, pos, negsuc}
 use lib.Pow.{pow-add, pow-pos, pow-mono, pow-lt, shl-lt}
-use lib.Ieee.{Float, nan, inf, fin, Format, binary64, prec, emax, low, hid, top, up, down, unlike, size, odd, units, round, neg, sum, add, sub, mul, rem, lt, eq, le, below, fits, isNan, ofBits, toBits}
+use lib.Ieee.{Float, nan, inf, fin, Format, binary64, prec, emax, low, hid, top, up, down, unlike, size, odd, units, round, neg, sum, add, sub, mul, lt, eq, le, below, fits, isNan, ofBits, toBits}
 use lib.Ieee.Bits.{ofBits-toBits}
 use lib.Ieee.Exact.{HasValue, round-exact}
-use lib.Ieee.Fits.{reach, up-pos, down-pos, and-l, and-r, round-is, round-fits}
+use lib.Ieee.Fits.{reach, down-pos, and-l, and-r, round-is, round-fits}
 use lib.Ieee.Nearest.{closest, div-same}
 use lib.Ieee.Order.{round-mono}
-use lib.Ieee.Positive.{positive, above, first-pos, between}
+use lib.Ieee.Positive.{positive, first-pos, between}
 use lib.Ieee.Scale.{finite, round-same}
 use Rattle.num.specs.Floats.{nought}
 use Rattle.num.specs.laws.Less.{no, lt-self, lt-trans, lt-either}
@@ -25,7 +24,7 @@ use Rattle.models.specs.Signs.{_⊕_, _⊖_, _⊗_}
 
 -- ---- the order
 
--- what is above a finite number that is not below 0.0 is above 0.0
+-- what is above a number that is not below 0.0 is above 0.0
 pub from-zero : (q z : Float) → lt q nought ≡ false → lt q z ≡ true → lt nought z ≡ true
 unfolding ofBits
 from-zero q z h p = ⊎-elim (λ u. no (sym h ∙ u)) (λ u. u) (lt-either q z nought tt p)
@@ -94,17 +93,17 @@ unique : (f : Format) (x y : Float) (s : Bool) (a c : ℕ) → 0 < c → T (fits
 unique f x y s a c p F G h k = sym (ofBits-toBits f x F) ∙ ap (ofBits f) (bits-are f x s a c p h ∙ sym (bits-are f y s a c p k)) ∙ ofBits-toBits f y G
 
 -- m * 2 ^ e is q * 2 ^ j of the format's smallest values
-record Grid (f : Format) (m : ℕ) (e : ℤ) : Type 0 where
-  q : ℕ
-  j : ℕ
-  small : q < 2 ^ prec f
-  fine : q * 2 ^ j < 2 ^ (low f + suc (emax f))
-  is : m * up e * 2 ^ low f ≡ q * 2 ^ j * down e
+pub record Grid (f : Format) (m : ℕ) (e : ℤ) : Type 0 where
+  pub q : ℕ
+  pub j : ℕ
+  pub small : q < 2 ^ prec f
+  pub fine : q * 2 ^ j < 2 ^ (low f + suc (emax f))
+  pub is : m * up e * 2 ^ low f ≡ q * 2 ^ j * down e
 
 exponent : (i j : ℕ) → 2 ^ i ≤ 2 ^ j → i ≤ j
 exponent i j h = ltb-false j i (refuted (ltb j i) (λ u. lt-irrefl (2 ^ j) (lt-of-lt-of-le (pow-lt (ltb-true j i u)) h)))
 
-grid : (f : Format) (s : Bool) (m : ℕ) (e : ℤ) → T (fits f (fin s m e)) → Grid f m e
+pub grid : (f : Format) (s : Bool) (m : ℕ) (e : ℤ) → T (fits f (fin s m e)) → Grid f m e
 unfolding fits
 grid f s zero e h = record { q = 0; j = 0; small = pow-pos (prec f); fine = pow-pos (low f + suc (emax f)); is = ap (λ (z : ℕ). z * 2 ^ low f) (zero-mul (up e)) ∙ zero-mul (2 ^ low f) ∙ sym (zero-mul (down e)) }
 grid f s (suc m) (pos a) h =
@@ -141,11 +140,15 @@ grid f s (suc m) (negsuc a) h =
     }
 
 -- so k times it is, over a denominator k times as large
-scaled : (f : Format) (m : ℕ) (e : ℤ) (g : Grid f m e) (k : ℕ) → m * up e * k * 2 ^ low f ≡ g .q * 2 ^ g .j * (down e * k)
+pub scaled : (f : Format) (m : ℕ) (e : ℤ) (g : Grid f m e) (k : ℕ) → m * up e * k * 2 ^ low f ≡ g .q * 2 ^ g .j * (down e * k)
 scaled f m e g k = mul-right-comm (m * up e) k (2 ^ low f) ∙ ap (λ (z : ℕ). z * k) (g .is) ∙ mul-assoc (g .q * 2 ^ g .j) (down e) k
 
--- a / c is the size of m * 2 ^ e
-own : (s : Bool) (m : ℕ) (e : ℤ) (a c : ℕ) → T (fits binary64 (fin s m e)) → 0 < c → a * down e ≡ m * up e * c → round binary64 s a c ≡ fin s m e
+-- a factor d times a factor e, together
+pub over : (x d e : ℕ) → x * d * e ≡ x * (e * d)
+over x d e = mul-right-comm x d e ∙ mul-assoc x e d
+
+-- so a fraction a / c of that size rounds to it
+pub own : (s : Bool) (m : ℕ) (e : ℤ) (a c : ℕ) → T (fits binary64 (fin s m e)) → 0 < c → a * down e ≡ m * up e * c → round binary64 s a c ≡ fin s m e
 own s m e a c h C v =
     let g = grid binary64 s m e h in
     let n = m * up e in
@@ -155,8 +158,8 @@ own s m e a c h C v =
     (round-exact binary64 s n d (g .q) (g .j) (down-pos e) (g .small) (g .fine) (g .is))
     (refl, refl)
 
--- the sign turns on nothing
-other-sign : (s t : Bool) (m : ℕ) (e : ℤ) → T (fits binary64 (fin s m e)) → T (fits binary64 (fin t m e))
+-- whether a float fits does not turn on its sign
+pub other-sign : (s t : Bool) (m : ℕ) (e : ℤ) → T (fits binary64 (fin s m e)) → T (fits binary64 (fin t m e))
 unfolding fits
 other-sign s t zero e h = h
 other-sign s t (suc m) e h = h
@@ -176,7 +179,7 @@ less-zero (fin s m e) h = go s h
     z = zero-mul (down e)
 
     same : (u : Bool) → T (fits binary64 (fin u m e)) → round binary64 u a (down e * 1) ≡ fin u m e
-    same u k = own u m e a (down e * 1) k (mul-pos (down-pos e) (pow-pos 0)) (mul-right-comm (m * up e) 1 (down e) ∙ mul-assoc (m * up e) (down e) 1)
+    same u k = own u m e a (down e * 1) k (mul-pos (down-pos e) (pow-pos 0)) (over (m * up e) 1 (down e))
 
     go : (u : Bool) → T (fits binary64 (fin u m e)) → sum binary64 u a true (0 * 1 * down e) (down e * 1) ≡ fin u m e
     go true k = rw (z, add-zero a) (same true k)
@@ -211,72 +214,10 @@ self-zero (fin s m e) f = go s
     go true = rw (le-ltb a a (le-refl a), nothing) none
     go false = rw (le-ltb a a (le-refl a), nothing) none
 
--- ---- `%`
-
--- a size below the other's stays
-rem-small : (s t : Bool) (m n : ℕ) (e d : ℤ) → T (fits binary64 (fin s m e)) → m * up e * down d < n * up d * down e → rem binary64 (fin s m e) (fin t n d) ≡ fin s m e
-unfolding rem
-rem-small s t m n e d h l =
-    let some : eqb n 0 ≡ false = ne-eqb n 0 (λ z. none z) in
-    rw (some, mod-eq-of-lt l)
-    (own s m e (m * up e * down d) (down e * down d) h (mul-pos (down-pos e) (down-pos d)) (mul-right-comm (m * up e) (down d) (down e) ∙ mul-assoc (m * up e) (down e) (down d)))
-  where
-    none : n ≡ 0 → ⊥
-    none z = omega (arith, ap (λ (k : ℕ). k * up d * down e) z, zero-mul (up d), ap (λ (k : ℕ). k * down e) (zero-mul (up d)), zero-mul (down e))
-
 -- what is not below 0.0 and carries a minus is a zero
-zero-size : (m : ℕ) (e : ℤ) → lt (fin true m e) nought ≡ false → m * up e ≡ 0
+pub zero-size : (m : ℕ) (e : ℤ) → lt (fin true m e) nought ≡ false → m * up e ≡ 0
 unfolding lt ofBits
 zero-size m e h = omega (arith, ltb-false 0 (m * up e * 1 + 0 * 1 * down e) h, mul-one (m * up e))
-
-rem-sizes : (s t : Bool) (m n : ℕ) (e d : ℤ) → T (fits binary64 (fin s m e)) → lt (fin s m e) nought ≡ false → below s (m * up e * down d) t (n * up d * down e) ≡ true → rem binary64 (fin s m e) (fin t n d) ≡ fin s m e
-rem-sizes false false m n e d F z p = rem-small false false m n e d F (ltb-true _ _ p)
-rem-sizes false true m n e d F z p = no p
-rem-sizes true t m n e d F z p = rem-small true t m n e d F (small t (ap (λ (k : ℕ). k * down d) (zero-size m e z) ∙ zero-mul (down d)) p)
-  where
-    small : (t : Bool) → m * up e * down d ≡ 0 → below true (m * up e * down d) t (n * up d * down e) ≡ true → m * up e * down d < n * up d * down e
-    small true q p = absurd (omega (arith, ltb-true (n * up d * down e) (m * up e * down d) p))
-    small false q p = omega (arith, ltb-true 0 (m * up e * down d + n * up d * down e) p)
-
--- a number from 0.0 up to y is its own remainder
-pub rem-below : (x y : Float) → T (fits binary64 x) → lt x nought ≡ false → lt x y ≡ true → rem binary64 x y ≡ x
-unfolding lt rem ofBits
-rem-below nan y F z p = no p
-rem-below (inf true) y F z p = no (sym z)
-rem-below (inf false) nan F z p = no p
-rem-below (inf false) (inf t) F z p = no p
-rem-below (inf false) (fin t n d) F z p = no p
-rem-below (fin s m e) nan F z p = no p
-rem-below (fin s m e) (inf t) F z p = refl
-rem-below (fin s m e) (fin t n d) F z p = rem-sizes s t m n e d F z p
-
--- 0.0 has no remainder above 0.0
-pub rem-nought : (y : Float) → lt nought (rem binary64 nought y) ≡ false
-unfolding lt rem ofBits fits
-rem-nought nan = refl
-rem-nought (inf t) = refl
-rem-nought (fin t n d) = go (eqb n 0)
-  where
-    none : round binary64 false (0 * 1 * down d % (n * up d * 1)) (1 * down d) ≡ nought
-    none = rw (zero-mul (down d), zero-mod (n * up d * 1)) (own false 0 (pos 0) 0 (1 * down d) tt (mul-pos (pow-pos 0) (down-pos d)) (sym (zero-mul (1 * down d))))
-
-    go : (b : Bool) → lt nought (cond b nan (round binary64 false (0 * 1 * down d % (n * up d * 1)) (1 * down d))) ≡ false
-    go true = refl
-    go false = rw none
-
--- the remainder by a zero is a NaN
-pub rem-zero : (x y : Float) → T (finite y) → lt y nought ≡ false → lt nought y ≡ false → rem binary64 x y ≡ nan
-unfolding lt rem ofBits
-rem-zero x nan f h k = absurd f
-rem-zero x (inf t) f h k = absurd f
-rem-zero nan (fin t n d) f h k = refl
-rem-zero (inf s) (fin t n d) f h k = refl
-rem-zero (fin s m e) (fin t n d) f h k = rw (eq-eqb n 0 (go t n h k))
-  where
-    go : (t : Bool) (n : ℕ) → lt (fin t n d) nought ≡ false → lt nought (fin t n d) ≡ false → n ≡ 0
-    go t zero h k = refl
-    go true (suc n) h k = absurd (omega (arith, zero-size (suc n) d h, mul-pos (zero-lt-suc n) (up-pos d)))
-    go false (suc n) h k = absurd (omega (arith, ltb-false (0 * 1 * down d) (suc n * up d * 1) k, zero-mul (down d), mul-one (suc n * up d), mul-pos (zero-lt-suc n) (up-pos d)))
 
 -- ---- what rounds to a finite number
 
@@ -286,7 +227,7 @@ odd-finite d s zero k l = tt
 odd-finite d s (suc q) k l = tt
 
 -- what rounds to at most a finite number rounds to one
-round-finite : (f : Format) (s : Bool) (a c : ℕ) (s′ : Bool) (m : ℕ) (e : ℤ) → T (le (round f false a c) (fin s′ m e)) → T (finite (round f s a c))
+pub round-finite : (f : Format) (s : Bool) (a c : ℕ) (s′ : Bool) (m : ℕ) (e : ℤ) → T (le (round f false a c) (fin s′ m e)) → T (finite (round f s a c))
 unfolding units le
 round-finite f s a c s′ m e h = rw (round-is f s a c) (go (ltb (q * 2 ^ k) (2 ^ (low f + suc (emax f)))) (rw (round-is f false a c) at h))
   where
@@ -300,150 +241,11 @@ round-finite f s a c s′ m e h = rw (round-is f s a c) (go (ltb (q * 2 ^ k) (2 
     go true h = odd-finite (suc (prec f)) s q k (low f)
     go false h = absurd h
 
--- so of a fraction that is at most one
-round-under : (a c m : ℕ) (e : ℤ) → T (fits binary64 (fin false m e)) → 0 < c → a * down e ≤ m * up e * c → T (le (round binary64 false a c) (fin false m e))
+-- a fraction that is at most a float that fits rounds to at most that float
+pub round-under : (a c m : ℕ) (e : ℤ) → T (fits binary64 (fin false m e)) → 0 < c → a * down e ≤ m * up e * c → T (le (round binary64 false a c) (fin false m e))
 round-under a c m e F C h =
     subst (λ (z : Float). T (le (round binary64 false a c) z)) (own false m e (m * up e) (down e) F (down-pos e) refl)
     (round-mono binary64 a c (m * up e) (down e) C (down-pos e) h)
-
--- a remainder that is a number is finite
-rem-finite : (x y : Float) → T (fits binary64 x) → isNan (rem binary64 x y) ≡ false → T (finite (rem binary64 x y))
-unfolding rem isNan
-rem-finite nan y F h = no (sym h)
-rem-finite (inf s) y F h = no (sym h)
-rem-finite (fin s m e) nan F h = no (sym h)
-rem-finite (fin s m e) (inf t) F h = tt
-rem-finite (fin s m e) (fin t n d) F h = go (eqb n 0) h
-  where
-    a : ℕ
-    a = m * up e * down d
-
-    b : ℕ
-    b = n * up d * down e
-
-    c : ℕ
-    c = down e * down d
-
-    at-most : a % b * down e ≤ m * up e * c
-    at-most = le-trans (mul-le-mul-right (down e) (mod-le a b)) (le-of-eq (mul-right-comm (m * up e) (down d) (down e) ∙ mul-assoc (m * up e) (down e) (down d)))
-
-    go : (z : Bool) → isNan (cond z nan (round binary64 s (a % b) c)) ≡ false → T (finite (cond z nan (round binary64 s (a % b) c)))
-    go true h = no (sym h)
-    go false h = round-finite binary64 s (a % b) c false m e (round-under (a % b) c m e (other-sign s false m e F) (mul-pos (down-pos e) (down-pos d)) at-most)
-
--- ---- `%` is exact
-
--- whole numbers: a common factor stays out of `%`
-whole-mod : (x m c : ℕ) → 0 < m → 0 < c → x * c % (m * c) ≡ x % m * c
-whole-mod x m c M C = mod-mul (x * c) M C ∙ rw (mul-div-cancel x C, mul-mod-left x c, add-zero (x % m * c))
-
--- r has no more than k digits, and zeros after them
-record Few (k r : ℕ) : Type 0 where
-  q : ℕ
-  j : ℕ
-  small : q < 2 ^ k
-  is : r ≡ q * 2 ^ j
-
-shift : (q i j k : ℕ) → i + j ≡ k → q * 2 ^ k ≡ q * 2 ^ i * 2 ^ j
-shift q i j k e = ap (λ (z : ℕ). q * z) (ap (λ (z : ℕ). 2 ^ z) (sym e) ∙ pow-add 2 i j) ∙ sym (mul-assoc q (2 ^ i) (2 ^ j))
-
-mod-few : (k q j r l : ℕ) → q < 2 ^ k → r < 2 ^ k → 0 < r → Few k (q * 2 ^ j % (r * 2 ^ l))
-mod-few k q j r l Q R P = go (leb l j) (leb-true l j) (leb-false l j)
-  where
-    go : (b : Bool) → (b ≡ true → l ≤ j) → (b ≡ false → j < l) → Few k (q * 2 ^ j % (r * 2 ^ l))
-    go true y n =
-        let h = y refl in
-        let i = j - l in
-        let e : i + l ≡ j = omega arith in
-        record { q = q * 2 ^ i % r; j = l; small = lt-of-lt-of-le (mod-lt (q * 2 ^ i) P) (le-of-lt R); is = rw (shift q i l j e) (whole-mod (q * 2 ^ i) r (2 ^ l) P (pow-pos l)) }
-    go false y n =
-        let h = n refl in
-        let i = l - j in
-        let e : i + j ≡ l = omega arith in
-        record { q = q % (r * 2 ^ i); j = j; small = lt-of-le-of-lt (mod-le q (r * 2 ^ i)) Q; is = rw (shift r i j l e) (whole-mod q (r * 2 ^ i) (2 ^ j) (mul-pos P (pow-pos i)) (pow-pos j)) }
-
-rem-value : (s : Bool) (m n : ℕ) (e d : ℤ) → T (fits binary64 (fin false m e)) → T (fits binary64 (fin false n d)) → 0 < n
-    → HasValue (round binary64 s (m * up e * down d % (n * up d * down e)) (down e * down d)) s (m * up e * down d % (n * up d * down e)) (down e * down d)
-rem-value s m n e d F G N =
-    round-exact binary64 s (a % b) c (w .q) (w .j) C (w .small) (lt-of-le-of-lt (le-trans (le-of-eq (sym (w .is))) (mod-le A B)) (g .fine))
-    (sym (whole-mod a b L b-pos L-pos) ∙ rw (a-is, b-is) (whole-mod A B c B-pos C) ∙ ap (λ (z : ℕ). z * c) (w .is))
-  where
-    a : ℕ
-    a = m * up e * down d
-
-    b : ℕ
-    b = n * up d * down e
-
-    c : ℕ
-    c = down e * down d
-
-    L : ℕ
-    L = 2 ^ low binary64
-
-    L-pos : 0 < L
-    L-pos = pow-pos (low binary64)
-
-    C : 0 < c
-    C = mul-pos (down-pos e) (down-pos d)
-
-    g : Grid binary64 m e
-    g = grid binary64 false m e F
-
-    h : Grid binary64 n d
-    h = grid binary64 false n d G
-
-    A : ℕ
-    A = g .q * 2 ^ g .j
-
-    B : ℕ
-    B = h .q * 2 ^ h .j
-
-    a-is : a * L ≡ A * c
-    a-is = scaled binary64 m e g (down d)
-
-    b-is : b * L ≡ B * c
-    b-is = scaled binary64 n d h (down e) ∙ ap (λ (z : ℕ). B * z) (mul-comm (down d) (down e))
-
-    b-pos : 0 < b
-    b-pos = mul-pos (mul-pos N (up-pos d)) (down-pos e)
-
-    B-pos : 0 < B
-    B-pos = first-pos B c (subst (λ (z : ℕ). 0 < z) b-is (mul-pos b-pos L-pos))
-
-    w : Few 53 (A % B)
-    w = mod-few 53 (g .q) (g .j) (h .q) (h .j) (g .small) (h .small) (first-pos (h .q) (2 ^ h .j) B-pos)
-
--- a value r / c below n * 2 ^ d, where r is below n * up d * u and c is u * down d
-value-below : (z : Float) (r c u n : ℕ) (d : ℤ) → 0 < u → c ≡ u * down d → r < n * up d * u → HasValue z false r c → (lt z (fin false n d) ≡ true) × (lt z nought ≡ false)
-unfolding lt ofBits
-value-below nan r c u n d U e h v = absurd v
-value-below (inf s) r c u n d U e h v = absurd v
-value-below (fin true m i) r c u n d U e h v = no (sym (v .0))
-value-below (fin false m i) r c u n d U e h v = (
-  lt-ltb (m * up i * down d) (n * up d * down i) (lt-of-mul-lt-mul-right u (subst (λ (z : ℕ). z < n * up d * down i * u) (sym left) (subst (λ (z : ℕ). r * down i < z) (mul-right-comm (n * up d) u (down i)) (mul-lt-mul-of-pos-right h (down-pos i))))),
-  le-ltb (m * up i * 1) (0 * 1 * down i) (omega (arith, zero-mul (down i))),
-)
-  where
-    left : m * up i * down d * u ≡ r * down i
-    left = mul-assoc (m * up i) (down d) u ∙ ap (λ (z : ℕ). m * up i * z) (mul-comm (down d) u ∙ sym e) ∙ v .1
-
--- the remainder by a y above 0.0 of what is not below 0.0 is below y and not below 0.0
-pub rem-within : (x y : Float) → T (fits binary64 x) → T (fits binary64 y) → T (finite x) → T (positive y) → lt x nought ≡ false → (lt (rem binary64 x y) y ≡ true) × (lt (rem binary64 x y) nought ≡ false)
-unfolding lt rem ofBits
-rem-within nan y F G f p z = absurd f
-rem-within (inf s) y F G f p z = absurd f
-rem-within (fin s m e) nan F G f p z = absurd p
-rem-within (fin s m e) (inf t) F G f p z = absurd p
-rem-within (fin s m e) (fin true n d) F G f p z = absurd p
-rem-within (fin false m e) (fin false n d) F G f p z =
-    let N : 0 < n = ltb→lt 0 n p in
-    rw (ne-eqb n 0 (λ q. absurd (omega arith)))
-    (value-below (round binary64 false (m * up e * down d % (n * up d * down e)) (down e * down d)) _ (down e * down d) (down e) n d (down-pos e) refl (mod-lt (m * up e * down d) (mul-pos (mul-pos N (up-pos d)) (down-pos e)))
-    (rem-value false m n e d F G N))
-rem-within (fin true m e) (fin false n d) F G f p z =
-    let some : 0 < n * up d * down e = mul-pos (mul-pos (ltb→lt 0 n p) (up-pos d)) (down-pos e) in
-    let l : lt (fin true m e) (fin false n d) ≡ true = lt-ltb 0 (m * up e * down d + n * up d * down e) (omega arith) in
-    subst (λ (v : Float). (lt v (fin false n d) ≡ true) × (lt v nought ≡ false)) (sym (rem-below (fin true m e) (fin false n d) F z l)) (l, z)
 
 -- ---- above zero
 
@@ -455,16 +257,6 @@ positive-of (inf s) p f = absurd f
 positive-of (fin true m e) p f = no p
 positive-of (fin false m e) p f =
     lt→ltb 0 m (first-pos m (up e) (first-pos (m * up e) 1 (subst (λ (k : ℕ). k < m * up e * 1) (zero-mul (down e)) (ltb-true (0 * 1 * down e) (m * up e * 1) p))))
-
-above-number : (x : Float) → lt nought x ≡ true → isNan x ≡ false
-unfolding lt isNan ofBits
-above-number nan p = no p
-above-number (inf s) p = refl
-above-number (fin s m e) p = refl
-
--- and so is a remainder above 0.0
-pub rem-positive : (x y : Float) → T (fits binary64 x) → lt nought (rem binary64 x y) ≡ true → T (positive (rem binary64 x y))
-rem-positive x y F p = positive-of (rem binary64 x y) p (rem-finite x y F (above-number (rem binary64 x y) p))
 
 -- two different multiples of c / L differ by that at least
 gap : (a b w v c L : ℕ) → 0 < L → a * L ≡ w * c → b * L ≡ v * c → b < a → c ≤ (a - b) * L
@@ -517,7 +309,7 @@ difference (fin false (suc m) e) (fin s n d) F G p z l = go s G z l
     a-is = scaled binary64 (suc m) e g (down d)
 
     top-is : a * down e ≡ suc m * up e * c
-    top-is = mul-right-comm (suc m * up e) (down d) (down e) ∙ mul-assoc (suc m * up e) (down e) (down d)
+    top-is = over (suc m * up e) (down d) (down e)
 
     far : (k v : ℕ) → k < a → k * 2 ^ 1074 ≡ v * c → T (positive (round binary64 false (a - k) c))
     far k v h q =

@@ -14,10 +14,10 @@ use Rattle.num.specs.Floats.{nought}
 use Rattle.num.specs.laws.Less.{no, lt-self, lt-trans, lt-either}
 use Rattle.models.specs.Signs.{_⊕_, _⊖_}
 use Rattle.models.specs.declared.vpwl.Point.{Point}
-use Rattle.models.specs.declared.vpwl.Segment.{Segment}
 use Rattle.models.specs.Vpwl.{pointAt, pointsFrom, lastOf, between, orZero, levelOn, pastEnd, levelAt, patternAt, single, atEnd, patternFirst, patternOf}
 use Rattle.models.specs.laws.Points.{last-at, further, found}
-use Rattle.models.specs.laws.Binary64.{from-zero, refuted, lt-le, less-zero, zero-plus, self-zero, rem-nought, rem-zero, rem-below, rem-within, positive-of, rem-positive, difference, finite-number, cond-number, add-number, mul-number}
+use Rattle.models.specs.laws.Binary64.{from-zero, refuted, lt-le, less-zero, zero-plus, self-zero, positive-of, difference, finite-number, cond-number, add-number, mul-number}
+use Rattle.models.specs.laws.Remainder.{rem-below, rem-nought, rem-zero, rem-within, rem-positive}
 use Rattle.models.specs.laws.Rising.{FinitePoint, Rising, TimesFit, Neighbours, segment, RisingBytes, next, alone-or-above, several, last-finite, last-start, last-fits, since-first, more-than-one, first-below, finds, times-read, rising-read, neighbours-read}
 
 -- ---- the option

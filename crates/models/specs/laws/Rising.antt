@@ -10,7 +10,7 @@ use lib.Dec.{T}
 use lib.Ieee.{Float, binary64, lt, fits}
 use lib.Ieee.Bits.{ofBits-fits}
 use lib.Ieee.Scale.{finite}
-use Rattle.num.specs.Le.{floatAt, le64}
+use Rattle.num.specs.Le.{floatAt}
 use Rattle.num.specs.Floats.{nought}
 use Rattle.num.specs.laws.Less.{no, lt-self, lt-trans}
 use Rattle.models.specs.declared.vpwl.Point.{Point}
