@@ -1,4 +1,4 @@
--- Laws of a pattern's points: past the end of the bytes a point is (0, 0), a part is its first point and the rest, and the last of a part stands at its end.
+-- Laws of a pattern's points, as the functions read them: past the end of the bytes a point is (0, 0), and a part is its first point and the rest.
 use Prim.Native.Nat.{ℕ, zero, suc, _+_, _-_, _*_, _/_, _<_}
 use mathlib.Core.Path.{_≡_, refl, sym}
 use mathlib.Core.Bool.{Bool, true, false, not, cond}

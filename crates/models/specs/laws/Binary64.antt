@@ -40,6 +40,7 @@ both-false a b p q = rw (p, q)
 no-tie : (a b : ℕ) (u : Bool) → (b ≡ a → ⊥) → (eqb b a && u) ≡ false
 no-tie a b u f = rw (ne-eqb b a f)
 
+-- of two numbers of which one is below the other, the two are not equal
 lt-eq : (x y : Float) → lt x y ≡ true → eq y x ≡ false
 unfolding lt eq
 lt-eq nan y p = no p
@@ -166,6 +167,7 @@ other-sign s t (suc m) e h = h
 
 -- ---- 0.0 taken off and added
 
+-- less 0.0 a float stays, a zero of either sign too
 pub less-zero : (x : Float) → T (fits binary64 x) → x ⊖ nought ≡ x
 unfolding sub add sum neg ofBits
 less-zero nan h = refl
@@ -185,6 +187,7 @@ less-zero (fin s m e) h = go s h
     go true k = rw (z, add-zero a) (same true k)
     go false k = rw (z, le-ltb a 0 (omega arith), sub-zero a) (same false k)
 
+-- 0.0 added to a float above it leaves it
 pub zero-plus : (x : Float) → T (fits binary64 x) → lt nought x ≡ true → nought ⊕ x ≡ x
 unfolding add sum lt ofBits
 zero-plus nan h p = refl
@@ -330,12 +333,14 @@ difference (fin false (suc m) e) (fin s n d) F G p z l = go s G z l
 
 -- ---- what is no NaN
 
+-- a finite number
 pub finite-number : (x : Float) → T (finite x) → isNan x ≡ false
 unfolding isNan
 finite-number nan f = absurd f
 finite-number (inf s) f = absurd f
 finite-number (fin s m e) f = refl
 
+-- either of two numbers
 pub cond-number : (b : Bool) (x y : Float) → isNan x ≡ false → isNan y ≡ false → isNan (cond b x y) ≡ false
 cond-number true x y h k = h
 cond-number false x y h k = k
@@ -345,6 +350,7 @@ unfolding units isNan
 units-number f s q k =
     cond-number (ltb (q * 2 ^ k) (2 ^ (low f + suc (emax f)))) (odd (suc (prec f)) s q k (low f)) (inf s) (finite-number (odd (suc (prec f)) s q k (low f)) (odd-finite (suc (prec f)) s q k (low f))) refl
 
+-- what is rounded
 round-number : (f : Format) (s : Bool) (a c : ℕ) → isNan (round f s a c) ≡ false
 round-number f s a c = rw (round-is f s a c) (units-number f s _ _)
 

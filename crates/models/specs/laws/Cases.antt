@@ -1,12 +1,14 @@
--- The bench's cases g, h and i, and cases of the diode's rules that need no exponential, each by computing the definitions.
+-- The bench's cases g, h and i, cases of a pattern with the option `pattern_first`, and cases of the diode's rules that need no exponential, each by computing the definitions.
 use mathlib.Core.Path.{_≡_, refl}
+use mathlib.Core.Bool.{false}
 use mathlib.Core.List.{List, [], _∷_, map}
-use lib.Ieee.{Float, nan, binary64, ofBits, add, sub, mul, div, rem, neg, lt, le, isNan}
+use lib.Ieee.{Float, nan, binary64, ofBits, add, sub, mul, div, rem, neg, lt, le, fits, isNan}
 use Rattle.num.specs.Floats.{nought, absoluteOf}
 use Rattle.models.specs.declared.vpwl.Point.{Point}
 use Rattle.num.specs.Literals.{half, one, two, three, four, five, six, minusTwo, minusZero, infinity}
 use Rattle.models.specs.Vpwl.{patternAt, patternFirst, levelAt, levelOn, lastOf, between, orZero}
 use Rattle.models.specs.laws.Rising.{Rising}
+use Rattle.models.specs.laws.First.{never-nan}
 use Rattle.models.specs.Capacitor.{companionOf}
 use Rattle.models.specs.Diode.{limited, floored}
 
@@ -94,6 +96,11 @@ case-line = refl
 case-rising : Rising (point nought three) (point one four ∷ [])
 unfolding ofBits lt
 case-rising = record { first = record { time = tt; level = tt }; start = refl; climbing = (refl, record { time = tt; level = tt }, tt) }
+
+-- so with the option they give no NaN at any time, under any delay and repeat
+case-h-never : (delay repeat t : Float) → isNan (patternFirst (point nought three ∷ point one four ∷ []) delay repeat t) ≡ false
+unfolding ofBits fits
+case-h-never delay repeat t = never-nan (point nought three) (point one four ∷ []) (tt, (tt, tt)) case-rising delay repeat t
 
 -- not promised: times that do not rise run too; (0,3), (-1,4) ends before it starts, so without repeat every time from 0 on has the last level
 case-falling : map (patternFirst (point nought three ∷ point (neg one) four ∷ []) nought (neg one)) (nought ∷ half ∷ []) ≡ four ∷ four ∷ []

@@ -267,22 +267,34 @@ module _ (p : Point) (ps : List Point) (fit : TimesFit (p ∷ ps)) (rising : Ris
 -- ---- the same of points read from bytes: those from number k to number k + n
 
 module _ (s : List ℕ) (k n : ℕ) (rising : RisingBytes s k n) (repeat : Float) where
+  -- at the first time the first level
   pub read-first : patternFirst (pointsFrom s k (suc n)) nought repeat (pointAt s k .time) ≡ pointAt s k .level
   unfolding pointsFrom
   read-first = at-first (pointAt s k) (pointsFrom s (k + 1) n) (times-read s k (suc n)) (rising-read s k n rising) repeat
 
+  -- without repeat, from the last time on the last level
   pub read-end : (t : Float) → lt repeat nought ≡ true → le (pointAt s (k + n) .time) t ≡ true → patternFirst (pointsFrom s k (suc n)) nought repeat t ≡ pointAt s (k + n) .level
   unfolding pointsFrom
   read-end t r h =
       from-end (pointAt s k) (pointsFrom s (k + 1) n) (times-read s k (suc n)) (rising-read s k n rising) repeat t r (rw (last-at s k n) h)
       ∙ ap (λ (q : Point). q .level) (last-at s k n)
 
+  -- above the time of number i and not above that of the next, the level on the line through the two
   pub read-line : (i : ℕ) → k ≤ i → i < k + n → (t : Float) → T (fits binary64 t) → lt (pointAt s i .time) t ≡ true → lt (pointAt s (i + 1) .time) t ≡ false → lt t (pointAt s (k + n) .time) ≡ true
       → patternFirst (pointsFrom s k (suc n)) nought repeat t ≡ levelOn (segment (pointAt s i) (pointAt s (i + 1))) t
   unfolding pointsFrom
   read-line i a b t held h l e =
       on-line (pointAt s k) (pointsFrom s (k + 1) n) (times-read s k (suc n)) (rising-read s k n rising) repeat t held (rw (last-at s k n) e) (pointAt s i) (pointAt s (i + 1)) (neighbours-read s k n i a b) h l
 
+  -- with repeat, each cycle as the first
+  pub read-cycle : (t : Float) → T (fits binary64 t) → T (finite t) → lt t nought ≡ false → lt repeat nought ≡ false
+      → patternFirst (pointsFrom s k (suc n)) nought repeat t ≡ patternFirst (pointsFrom s k (suc n)) nought repeat (rem binary64 t (pointAt s (k + n) .time))
+  unfolding pointsFrom
+  read-cycle t held f z r =
+      each-cycle (pointAt s k) (pointsFrom s (k + 1) n) (times-read s k (suc n)) (rising-read s k n rising) repeat t held f z r
+      ∙ ap (λ (q : Point). patternFirst (pointAt s k ∷ pointsFrom s (k + 1) n) nought repeat (rem binary64 t (q .time))) (last-at s k n)
+
+  -- never a NaN, whatever the delay, the repeat and the time
   pub read-never-nan : (delay t : Float) → isNan (patternFirst (pointsFrom s k (suc n)) delay repeat t) ≡ false
   unfolding pointsFrom
   read-never-nan delay t = never-nan (pointAt s k) (pointsFrom s (k + 1) n) (times-read s k (suc n)) (rising-read s k n rising) delay repeat t

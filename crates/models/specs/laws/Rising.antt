@@ -57,6 +57,7 @@ segment a b = record { t1 = a .time; v1 = a .level; t2 = b .time; v2 = b .level 
 still : (q z : Float) → lt q nought ≡ false → lt q z ≡ true → lt z nought ≡ false
 still q z h p = refuted (lt z nought) (λ u. no (sym h ∙ lt-trans q z nought p u))
 
+-- without its first point a rising pattern rises
 pub next : {p q : Point} {qs : List Point} → Rising p (q ∷ qs) → Rising q qs
 next {p} {q} r = record { first = r .climbing .1; start = still (p .time) (q .time) (r .start) (r .climbing .0); climbing = r .climbing .2 }
 
@@ -71,35 +72,42 @@ unfolding lastOf
 alone-or-above p [] c = inl refl
 alone-or-above p (q ∷ qs) c = inr (last-above p q qs c)
 
+-- where the last time is above the first there is more than one point
 pub several : (p : Point) (ps : List Point) → lt (p .time) (lastOf p ps .time) ≡ true → single ps ≡ false
 unfolding lastOf
 several p [] h = no (sym (lt-self (p .time)) ∙ h)
 several p (q ∷ qs) h = refl
 
+-- the last point is finite
 pub last-finite : (p : Point) (ps : List Point) → Rising p ps → FinitePoint (lastOf p ps)
 unfolding lastOf
 last-finite p [] r = r .first
 last-finite p (q ∷ qs) r = last-finite q qs (next r)
 
+-- the last time is not below 0.0
 pub last-start : (p : Point) (ps : List Point) → Rising p ps → lt (lastOf p ps .time) nought ≡ false
 unfolding lastOf
 last-start p [] r = r .start
 last-start p (q ∷ qs) r = last-start q qs (next r)
 
+-- the last time is a number of binary64
 pub last-fits : (p : Point) (ps : List Point) → TimesFit (p ∷ ps) → T (fits binary64 (lastOf p ps .time))
 unfolding lastOf
 last-fits p [] h = h .0
 last-fits p (q ∷ qs) h = last-fits q qs (h .1)
 
+-- a time above the first is not below 0.0
 pub since-first : (p : Point) (ps : List Point) (t : Float) → Rising p ps → lt (p .time) t ≡ true → lt t nought ≡ false
 since-first p ps t r h = still (p .time) t (r .start) h
 
 -- ---- the neighbours that a time lies between
 
+-- neighbours are more than one point
 pub more-than-one : {a b p : Point} {ps : List Point} → Neighbours a b p ps → single ps ≡ false
 more-than-one here = refl
 more-than-one (later n) = refl
 
+-- a time above one of them is above the first
 pub first-below : {a b p : Point} {ps : List Point} (t : Float) → Neighbours a b p ps → Climbing p ps → lt (a .time) t ≡ true → lt (p .time) t ≡ true
 first-below t here c h = h
 first-below t (later {p = p} {q = q} n) c h = lt-trans (p .time) (q .time) t (c .0) (first-below t n (c .2) h)
@@ -117,6 +125,7 @@ pub record RisingBytes (s : List ℕ) (k n : ℕ) : Type 0 where
   pub start : lt (pointAt s k .time) nought ≡ false
   pub rises : (i : ℕ) → k ≤ i → i < k + n → lt (pointAt s i .time) (pointAt s (i + 1) .time) ≡ true
 
+-- every time read is a number of binary64
 pub times-read : (s : List ℕ) (k n : ℕ) → TimesFit (pointsFrom s k n)
 unfolding pointsFrom pointAt floatAt
 times-read s k zero = tt
@@ -129,9 +138,11 @@ climbing-read s k zero f r = tt
 climbing-read s k (suc n) f r =
     (r k (omega arith) (omega arith), f (k + 1) (omega arith) (omega arith), climbing-read s (k + 1) n (λ i a b. f i (omega arith) (omega arith)) (λ i a b. r i (omega arith) (omega arith)))
 
+-- so the points read rise
 pub rising-read : (s : List ℕ) (k n : ℕ) → RisingBytes s k n → Rising (pointAt s k) (pointsFrom s (k + 1) n)
 rising-read s k n r = record { first = r .each k (omega arith) (omega arith); start = r .start; climbing = climbing-read s k n (r .each) (r .rises) }
 
+-- number i and the next are neighbours
 pub neighbours-read : (s : List ℕ) (k n i : ℕ) → k ≤ i → i < k + n → Neighbours (pointAt s i) (pointAt s (i + 1)) (pointAt s k) (pointsFrom s (k + 1) n)
 unfolding pointsFrom
 neighbours-read s k zero i h l = absurd (omega arith)
