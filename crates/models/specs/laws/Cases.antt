@@ -112,7 +112,7 @@ case-infinite : map (λ (ps : List Point). patternFirst ps nought (neg one) half
 unfolding patternFirst patternAt levelAt levelOn lastOf between orZero ofBits add sub mul div rem neg lt le isNan
 case-infinite = refl
 
--- not promised: a first time below zero; from the lowest float to the highest at level 3, the time since the first overflows at 2 ^ 1023, and no slope times infinity is a NaN
+-- not promised: a first time below zero; from the lowest float to the highest at level 3, the time since the first overflows at 2 ^ 1023, and a slope of 0 times infinity is a NaN
 case-overflow : patternFirst (point (neg highest) three ∷ point highest three ∷ []) nought (neg one) (ofBits binary64 0x7fe0_0000_0000_0000) ≡ nan
 unfolding patternFirst patternAt levelAt levelOn lastOf between orZero ofBits add sub mul div rem neg lt le isNan
 case-overflow = refl
