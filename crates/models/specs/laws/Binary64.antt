@@ -1,24 +1,24 @@
 -- Floats that binary64 holds: each is what its value rounds to, so 0.0 taken off or added leaves it; a difference that is above zero does not round to zero; and which results are no NaN.
 -- Clients cite the laws marked pub. Assumes nothing.
-use Prim.Native.Nat.{ℕ, zero, suc, _+_, _-_, _*_, _/_, _%_, _^_, _≤_, _<_}
+use Prim.Native.Nat.{ℕ, zero, suc, _+_, _-_, _*_, _/_, _^_, _≤_, _<_}
 use mathlib.Core.Path.{_≡_, refl, sym, ap, _∙_, subst}
 use mathlib.Core.Logic.{⊎-elim}
 use mathlib.Core.Bool.{Bool, true, false, not, _&&_, _||_, Bool·beq, cond}
-use native.Mathlib.Nat.{le-refl, add-zero, zero-add, sub-zero, sub-le, le-trans, le-of-eq, le-of-lt, lt-irrefl, lt-of-lt-of-le, zero-lt-suc, zero-mul, suc-mul, one-mul, mul-one, mul-comm, mul-assoc, mul-right-comm, mul-sub, mul-pos, mul-le-mul-right, mul-lt-mul-of-pos-right, lt-of-mul-lt-mul-right}
+use native.Mathlib.Nat.{le-refl, add-zero, zero-add, sub-zero, sub-le, le-trans, le-of-eq, le-of-lt, zero-lt-suc, zero-mul, one-mul, mul-one, mul-comm, mul-assoc, mul-right-comm, mul-pos, mul-le-mul-right}
 use native.Mathlib.Omega.{arith}
 use borrow.Author.Tests.{ltb-true, ltb-false, le-ltb, ne-eqb, eqb-true}
-use lib.Dec.{T, ltb, leb, eqb, ltb→lt, leb→le, lt→ltb}
+use lib.Dec.{T, ltb, eqb, ltb→lt, lt→ltb}
 use lib.IntN.{ℤ, pos, negsuc}
-use lib.Pow.{pow-add, pow-pos, pow-mono, pow-lt, shl-lt}
-use lib.Ieee.{Float, nan, inf, fin, Format, binary64, prec, emax, low, hid, top, up, down, unlike, size, odd, units, round, neg, sum, add, sub, mul, lt, eq, le, below, fits, isNan, ofBits, toBits}
-use lib.Ieee.Bits.{ofBits-toBits}
-use lib.Ieee.Exact.{HasValue, round-exact}
-use lib.Ieee.Fits.{reach, down-pos, and-l, and-r, round-is, round-fits}
-use lib.Ieee.Nearest.{closest, div-same}
+use lib.Pow.{pow-pos}
+use lib.Ieee.{Float, nan, inf, fin, Format, binary64, prec, emax, low, up, down, unlike, size, odd, units, round, neg, sum, add, sub, mul, lt, eq, le, below, fits, isNan, ofBits}
+use lib.Ieee.Fits.{down-pos, round-is}
+use lib.Ieee.Nearest.{closest}
 use lib.Ieee.Order.{round-mono}
 use lib.Ieee.Positive.{positive, first-pos, between}
 use lib.Ieee.Scale.{finite, round-same}
 use Rattle.num.specs.Floats.{nought}
+use Rattle.num.specs.laws.Held as held
+use Rattle.num.specs.laws.Held.{Grid, grid, gap}
 use Rattle.num.specs.laws.Less.{no, lt-self, lt-trans, lt-either}
 use Rattle.models.specs.Signs.{_⊕_, _⊖_, _⊗_}
 
@@ -77,70 +77,7 @@ lt-le x y p = both-false (lt y x) (eq y x) (refuted (lt y x) (λ q. no (sym (lt-
 
 -- ---- a float that fits is what its value rounds to
 
--- the bits of n of the format's smallest values
-abbrev bitsOf : Format → Bool → ℕ → ℕ
-bitsOf f s n = cond s (top f) 0 + (size n - prec f) * hid f + n / 2 ^ (size n - prec f)
-
-bits-are : (f : Format) (x : Float) (s : Bool) (a c : ℕ) → 0 < c → HasValue x s a c → toBits f x ≡ bitsOf f s (a * 2 ^ low f / c)
-unfolding toBits
-bits-are f nan s a c p h = absurd h
-bits-are f (inf t) s a c p h = absurd h
-bits-are f (fin t m e) s a c p h =
-    (λ i. bitsOf f (h .0 i) (m * up e * 2 ^ low f / down e))
-    ∙ ap (bitsOf f s)
-    (div-same (m * up e * 2 ^ low f) (down e) (a * 2 ^ low f) c (down-pos e) p (mul-right-comm (m * up e) (2 ^ low f) c ∙ ap (λ (z : ℕ). z * 2 ^ low f) (h .1) ∙ mul-right-comm a (down e) (2 ^ low f)))
-
-unique : (f : Format) (x y : Float) (s : Bool) (a c : ℕ) → 0 < c → T (fits f x) → T (fits f y) → HasValue x s a c → HasValue y s a c → x ≡ y
-unique f x y s a c p F G h k = sym (ofBits-toBits f x F) ∙ ap (ofBits f) (bits-are f x s a c p h ∙ sym (bits-are f y s a c p k)) ∙ ofBits-toBits f y G
-
--- m * 2 ^ e is q * 2 ^ j of the format's smallest values
-pub record Grid (f : Format) (m : ℕ) (e : ℤ) : Type 0 where
-  pub q : ℕ
-  pub j : ℕ
-  pub small : q < 2 ^ prec f
-  pub fine : q * 2 ^ j < 2 ^ (low f + suc (emax f))
-  pub is : m * up e * 2 ^ low f ≡ q * 2 ^ j * down e
-
-exponent : (i j : ℕ) → 2 ^ i ≤ 2 ^ j → i ≤ j
-exponent i j h = ltb-false j i (refuted (ltb j i) (λ u. lt-irrefl (2 ^ j) (lt-of-lt-of-le (pow-lt (ltb-true j i u)) h)))
-
-pub grid : (f : Format) (s : Bool) (m : ℕ) (e : ℤ) → T (fits f (fin s m e)) → Grid f m e
-unfolding fits
-grid f s zero e h = record { q = 0; j = 0; small = pow-pos (prec f); fine = pow-pos (low f + suc (emax f)); is = ap (λ (z : ℕ). z * 2 ^ low f) (zero-mul (up e)) ∙ zero-mul (2 ^ low f) ∙ sym (zero-mul (down e)) }
-grid f s (suc m) (pos a) h =
-    let A = eqb (suc m % 2) 1 in
-    let B = ltb (suc m) (2 ^ prec f) in
-    let C = leb 1 (2 ^ low f) in
-    let D = ltb (suc m * 2 ^ a) (2 ^ suc (emax f) * 1) in
-    let l : suc m * 2 ^ a * 2 ^ low f ≡ suc m * 2 ^ (a + low f) = mul-assoc (suc m) (2 ^ a) (2 ^ low f) ∙ ap (λ (z : ℕ). suc m * z) (sym (pow-add 2 a (low f))) in
-    let u : suc m * 2 ^ a < 2 ^ suc (emax f) = subst (λ (z : ℕ). suc m * 2 ^ a < z) (mul-one (2 ^ suc (emax f))) (ltb→lt (suc m * 2 ^ a) (2 ^ suc (emax f) * 1) (and-r (A && B && C) D h)) in
-    let r : 2 ^ suc (emax f) * 2 ^ low f ≡ 2 ^ (low f + suc (emax f)) = mul-comm (2 ^ suc (emax f)) (2 ^ low f) ∙ sym (pow-add 2 (low f) (suc (emax f))) in
-    record {
-      q = suc m;
-      j = a + low f;
-      small = ltb→lt (suc m) (2 ^ prec f) (and-r A B (and-l (A && B) C (and-l (A && B && C) D h)));
-      fine = subst (λ (z : ℕ). z < 2 ^ (low f + suc (emax f))) l (subst (λ (z : ℕ). suc m * 2 ^ a * 2 ^ low f < z) r (mul-lt-mul-of-pos-right u (pow-pos (low f))));
-      is = l ∙ sym (mul-one (suc m * 2 ^ (a + low f)));
-    }
-grid f s (suc m) (negsuc a) h =
-    let A = eqb (suc m % 2) 1 in
-    let B = ltb (suc m) (2 ^ prec f) in
-    let C = leb (2 ^ suc a) (2 ^ low f) in
-    let D = ltb (suc m * 1) (2 ^ suc (emax f) * 2 ^ suc a) in
-    let small : suc m < 2 ^ prec f = ltb→lt (suc m) (2 ^ prec f) (and-r A B (and-l (A && B) C (and-l (A && B && C) D h))) in
-    let b : suc a ≤ low f = exponent (suc a) (low f) (leb→le (2 ^ suc a) (2 ^ low f) (and-r (A && B) C (and-l (A && B && C) D h))) in
-    let j = low f - suc a in
-    let k : j + suc a ≡ low f = omega arith in
-    let p : prec f + j ≤ low f + suc (emax f) = omega (arith, reach f) in
-    record {
-      q = suc m;
-      j = j;
-      small = small;
-      fine = lt-of-lt-of-le (shl-lt (prec f) j small) (pow-mono p);
-      is = ap (λ (z : ℕ). z * 2 ^ low f) (mul-one (suc m)) ∙ ap (λ (z : ℕ). suc m * z) (sym (ap (λ (z : ℕ). 2 ^ z) k) ∙ pow-add 2 j (suc a)) ∙ sym (mul-assoc (suc m) (2 ^ j) (2 ^ suc a));
-    }
-
--- so k times it is, over a denominator k times as large
+-- k times a float's size is as many times its smallest values, over a denominator k times as large
 pub scaled : (f : Format) (m : ℕ) (e : ℤ) (g : Grid f m e) (k : ℕ) → m * up e * k * 2 ^ low f ≡ g .q * 2 ^ g .j * (down e * k)
 scaled f m e g k = mul-right-comm (m * up e) k (2 ^ low f) ∙ ap (λ (z : ℕ). z * k) (g .is) ∙ mul-assoc (g .q * 2 ^ g .j) (down e) k
 
@@ -148,16 +85,9 @@ scaled f m e g k = mul-right-comm (m * up e) k (2 ^ low f) ∙ ap (λ (z : ℕ).
 pub over : (x d e : ℕ) → x * d * e ≡ x * (e * d)
 over x d e = mul-right-comm x d e ∙ mul-assoc x e d
 
--- so a fraction a / c of that size rounds to it
+-- a fraction a / c of a float's size rounds to it
 pub own : (s : Bool) (m : ℕ) (e : ℤ) (a c : ℕ) → T (fits binary64 (fin s m e)) → 0 < c → a * down e ≡ m * up e * c → round binary64 s a c ≡ fin s m e
-own s m e a c h C v =
-    let g = grid binary64 s m e h in
-    let n = m * up e in
-    let d = down e in
-    round-same binary64 s a c n d C (down-pos e) v
-    ∙ unique binary64 (round binary64 s n d) (fin s m e) s n d (down-pos e) (round-fits binary64 s n d) h
-    (round-exact binary64 s n d (g .q) (g .j) (down-pos e) (g .small) (g .fine) (g .is))
-    (refl, refl)
+own s m e a c h C v = round-same binary64 s a c (m * up e) (down e) C (down-pos e) v ∙ held.own binary64 s m e h
 
 -- whether a float fits does not turn on its sign
 pub other-sign : (s t : Bool) (m : ℕ) (e : ℤ) → T (fits binary64 (fin s m e)) → T (fits binary64 (fin t m e))
@@ -260,14 +190,6 @@ positive-of (inf s) p f = absurd f
 positive-of (fin true m e) p f = no p
 positive-of (fin false m e) p f =
     lt→ltb 0 m (first-pos m (up e) (first-pos (m * up e) 1 (subst (λ (k : ℕ). k < m * up e * 1) (zero-mul (down e)) (ltb-true (0 * 1 * down e) (m * up e * 1) p))))
-
--- two different multiples of c / L differ by that at least
-gap : (a b w v c L : ℕ) → 0 < L → a * L ≡ w * c → b * L ≡ v * c → b < a → c ≤ (a - b) * L
-gap a b w v c L p x y h =
-    let i : v * c < w * c = rw (← x, ← y) (mul-lt-mul-of-pos-right h p) in
-    let g : suc v * c ≤ w * c = mul-le-mul-right c (lt-of-mul-lt-mul-right c i) in
-    let d : (a - b) * L ≡ a * L - b * L = mul-comm (a - b) L ∙ mul-sub L a b ∙ (λ i. mul-comm L a i - mul-comm L b i) in
-    omega (arith, suc-mul v c)
 
 -- 2 ^ -1074
 abbrev least : Float

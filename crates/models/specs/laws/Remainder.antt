@@ -17,7 +17,8 @@ use lib.Ieee.Positive.{positive, first-pos}
 use lib.Ieee.Scale.{finite}
 use Rattle.num.specs.Floats.{nought}
 use Rattle.num.specs.laws.Less.{no}
-use Rattle.models.specs.laws.Binary64.{Grid, grid, scaled, over, own, other-sign, zero-size, round-finite, round-under, positive-of}
+use Rattle.num.specs.laws.Held.{Grid, grid}
+use Rattle.models.specs.laws.Binary64.{scaled, over, own, other-sign, zero-size, round-finite, round-under, positive-of}
 
 -- ---- of a number below the other
 
