@@ -7,6 +7,7 @@ use mathlib.Core.Bool.{Bool, true, false, _&&_, _||_, cond}
 use mathlib.Core.List.{List, [], _∷_}
 use lib.Dec.{T}
 use lib.Ieee.{Float, binary64, rem, lt, le, eq, fits, isNan, ofBits}
+use lib.Ieee.Bits.{ofBits-fits}
 use lib.Ieee.Fits.{sub-fits, rem-fits}
 use lib.Ieee.Positive.{positive}
 use lib.Ieee.Scale.{finite}
@@ -210,6 +211,11 @@ module _ (p : Point) (ps : List Point) (fit : TimesFit (p ∷ ps)) (rising : Ris
   pub at-first : patternFirst (p ∷ ps) nought repeat (p .time) ≡ p .level
   at-first = until-first (p .time) (fit .0) (rising .first .time) (rising .start) (lt-self (p .time))
 
+  -- and at time 0.0, which is that of DC
+  pub at-zero : patternFirst (p ∷ ps) nought repeat nought ≡ p .level
+  unfolding ofBits
+  at-zero = until-first nought (ofBits-fits binary64 0) tt (lt-self nought) (rising .start)
+
   -- without repeat, from the last point's time on the last level, exactly
   pub from-end : (t : Float) → lt repeat nought ≡ true → le (lastOf p ps .time) t ≡ true → patternFirst (p ∷ ps) nought repeat t ≡ lastOf p ps .level
   unfolding lastOf
@@ -271,6 +277,11 @@ module _ (s : List ℕ) (k n : ℕ) (rising : RisingBytes s k n) (repeat : Float
   pub read-first : patternFirst (pointsFrom s k (suc n)) nought repeat (pointAt s k .time) ≡ pointAt s k .level
   unfolding pointsFrom
   read-first = at-first (pointAt s k) (pointsFrom s (k + 1) n) (times-read s k (suc n)) (rising-read s k n rising) repeat
+
+  -- and at time 0.0
+  pub read-zero : patternFirst (pointsFrom s k (suc n)) nought repeat nought ≡ pointAt s k .level
+  unfolding pointsFrom
+  read-zero = at-zero (pointAt s k) (pointsFrom s (k + 1) n) (times-read s k (suc n)) (rising-read s k n rising) repeat
 
   -- without repeat, from the last time on the last level
   pub read-end : (t : Float) → lt repeat nought ≡ true → le (pointAt s (k + n) .time) t ≡ true → patternFirst (pointsFrom s k (suc n)) nought repeat t ≡ pointAt s (k + n) .level
