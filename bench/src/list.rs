@@ -155,48 +155,61 @@ pub fn write_waiting(seed: u64, path: &str) -> u64 {
     0
 }
 
-/// How many random jobs of an ending `write_patterns` takes, of those with a pattern that the option moves and of the others.
-const MOVED: u64 = 16;
-const NOT_MOVED: u64 = 2;
+/// How many random jobs of an ending `write_patterns` takes: of those with a pattern that the option moves, settled and others, and of
+/// those without.
+const MOVED: [u64; 2] = [20, 5];
+const NOT_MOVED: u64 = 1;
 
-/// Writes the jobs about patterns that start away from zero: the directed ones, then random ones with the option on, in form 2.
+/// Its random jobs have short answers; the first of each ending may have a longer one.
+const SHORT: [usize; 2] = [2_400, 800];
+
+/// Writes the jobs about patterns that start away from zero: the directed ones, each once, then random ones with the option on, in
+/// form 2.
 pub fn write_patterns(seed: u64, path: &str) -> u64 {
     let mut list: Vec<(Job, Option<Answer>)> = Vec::new();
+    let mut seen = Vec::new();
     let mut classes = Tally::default();
-    let (mut moved, mut both) = (0, 0);
-    let mut take = |mut job: Job, always: bool| {
+    let mut counts = [0; 4];
+    let mut take = |mut job: Job, random: bool| {
         let (first, beyond) = model::run_beyond(&job, &OURS, Wrong::Nothing);
-        let key = format!("{}{}", quota(&job, &first).0, if beyond.moved > 0 { ", moved" } else { "" });
+        let moved = beyond.moved > 0;
+        let key = format!("{}{}", quota(&job, &first).0, if moved { ", moved" } else { "" });
+        let most = if moved { MOVED[(first.verdict != 0) as usize] } else { NOT_MOVED };
         tighten(&mut job, &first);
         let large = job.lengths.iter().zip(MOST_LENT).any(|(l, most)| *l > most);
-        assert!(!(always && large), "a directed job lends too much: {}", describe(&job));
-        let most = if beyond.moved > 0 { MOVED } else { NOT_MOVED };
-        if always || !large && classes.get(&key) < most {
-            classes.add(&key);
-            moved += (beyond.moved > 0) as u64;
-            both += (beyond.moved > 0 && beyond.held > 0) as u64;
-            let a = answer(&job);
-            list.push((job, Some(a)));
+        assert!(random || !large, "a directed job lends too much: {}", describe(&job));
+        let long = first.bytes(&job, Form::Two).len() > SHORT[(classes.get(&key) > 0) as usize];
+        if random && (large || long || classes.get(&key) >= most) {
+            return;
         }
+        if random {
+            classes.add(&key);
+        }
+        for (count, more) in counts.iter_mut().zip([!random, random, moved, moved && beyond.held > 0]) {
+            *count += more as u64;
+        }
+        let a = answer(&job);
+        list.push((job, Some(a)));
     };
-    let mut seen = Vec::new();
     for d in first::all() {
         let bytes = d.job.bytes(Form::Two);
         if !seen.contains(&bytes) {
             seen.push(bytes);
-            take(d.job, true);
+            take(d.job, false);
         }
     }
     for place in 0..100_000 {
         let (job, _) = generate::first(seed, place);
         let unknowns = job.nodes.saturating_add(job.sources);
-        if unknowns <= 4 && job.sheet.len() <= 7 * RECORD || (unknowns <= 10 && place % 60 == 0) {
-            take(job, false);
+        if unknowns <= 5 && job.sheet.len() <= 6 * RECORD || (unknowns <= 12 && place % 40 == 0) {
+            take(job, true);
         }
     }
     let bytes = file(Form::Two, &list);
     println!("{}: {} jobs, {} bytes, seed {}; {}", path, list.len(), bytes.len(), seed, stored(path, &bytes));
-    println!("  in {} of them a pattern is moved, in {} of these a pass waits too; {}", moved, both, classes.line());
+    let [directed, random, moved, waits] = counts;
+    println!("  {} directed, {} random: {}", directed, random, classes.line());
+    println!("  in {} of them a pattern is moved, in {} of these a pass waits too", moved, waits);
     0
 }
 
