@@ -28,8 +28,8 @@ const G: &[(f64, f64)] = &[(0.0, 0.0), (1.0, 4.0)];
 const H: &[(f64, f64)] = &[(0.0, 3.0), (1.0, 4.0)];
 const LATER: &[(f64, f64)] = &[(1.0, 3.0), (2.0, 5.0)];
 
-/// A time that is a float below 0.39 + 1.4, and from which 0.39 leaves 1.4.
-const NEAR_END: f64 = f64::from_bits(0x3ffc_a3d7_0a3d_70a3);
+/// A time that is a float below 0.39 + 1.4, and from which 0.39 leaves 1.4: the bits 3ffca3d70a3d70a3.
+const NEAR_END: f64 = 1.7899999999999998;
 
 /// v / t * t is no v.
 const UNEVEN: (f64, f64) = (0.1, 1.9);
