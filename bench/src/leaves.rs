@@ -253,6 +253,8 @@ struct Away {
     delay: f64,
     repeat: f64,
     at: f64,
+    /// Bytes behind the points that make no whole one.
+    spare: usize,
 }
 
 impl Away {
@@ -282,12 +284,21 @@ impl Away {
         };
         let beside = if r.one_in(5) { r.pick(&[1, u64::MAX]) } else { 0 };
         let at = f64::from_bits(at.to_bits().wrapping_add(beside));
-        Away { points, delay, repeat, at }
+        let spare = if r.one_in(8) { 1 + r.below(15) } else { 0 };
+        Away { points, delay, repeat, at, spare }
+    }
+
+    fn bytes(&self) -> Vec<u8> {
+        [point_bytes(&self.points), vec![0x3f; self.spare]].concat()
     }
 
     fn words(&self) -> String {
-        let Away { points, delay, repeat, at } = self;
-        format!("points {:?}, delay {:?}, repeat {:?}, time {:?} ({:016x})", points, delay, repeat, at, at.to_bits())
+        let Away { points, delay, repeat, at, spare } = self;
+        let bits = at.to_bits();
+        format!(
+            "points {:?}, {} bytes behind, delay {:?}, repeat {:?}, time {:?} ({:016x})",
+            points, spare, delay, repeat, at, bits
+        )
     }
 
     /// By the rule with the option on, the sentence too.
@@ -306,7 +317,7 @@ fn away_off(r: &mut Random) -> Trial {
     let level = a.plain();
     let rust = plain::pattern(&a.points, a.delay, a.repeat, a.at);
     let mut answers = vec![("model", vec![level]), ("Rust", vec![rust])];
-    answers.extend(door::pattern(&point_bytes(&a.points), a.delay, a.repeat, a.at).map(|x| ("shipped", vec![x])));
+    answers.extend(door::pattern(&a.bytes(), a.delay, a.repeat, a.at).map(|x| ("shipped", vec![x])));
     Trial::new(a.words(), answers, sort_of(level))
 }
 
@@ -315,7 +326,7 @@ fn away_on(r: &mut Random) -> Trial {
     let a = Away::draw(r);
     let (sentence, level) = a.first(Wrong::Nothing);
     let mut answers = vec![("second writing", vec![level])];
-    answers.extend(door::pattern_first(&point_bytes(&a.points), a.delay, a.repeat, a.at).map(|x| ("shipped", vec![x])));
+    answers.extend(door::pattern_first(&a.bytes(), a.delay, a.repeat, a.at).map(|x| ("shipped", vec![x])));
     let place = SENTENCES.iter().position(|s| s.0 == sentence).unwrap();
     let moved = if same(level, a.plain()) { "same as off" } else { "another than off" };
     let mut trial = Trial::new(a.words(), answers, format!("{}. {}, {}", place + 1, SENTENCES[place].1, moved));
