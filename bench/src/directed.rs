@@ -680,7 +680,8 @@ pub fn show_all() -> u64 {
 /// Runs them all; answers how many are amiss.
 pub fn run() -> u64 {
     let list: Vec<Directed> = all().into_iter().chain(budgets()).chain(waiting::all()).chain(first::all()).collect();
-    let mut bad = first::run_calls();
+    let calls = first::run_calls();
+    let mut bad = 0;
     let (mut told, mut domain) = (0, 0);
     let (mut waited, mut patterns) = (Vec::new(), Vec::new());
     let of = |list: &[(Wrong, &str)], wrong: Wrong| list.iter().any(|w| w.0 == wrong);
@@ -745,7 +746,7 @@ pub fn run() -> u64 {
     let of_patterns = || WRONG_PATTERN.iter().chain(WRONG_WORD);
     let readings = of_patterns().filter(|w| patterns.contains(&w.0)).count();
     println!("  of patterns that start away from zero: {} of {} wrong readings", readings, of_patterns().count());
-    bad + (of_patterns().count() - readings) as u64
+    bad + calls + (of_patterns().count() - readings) as u64
 }
 
 /// Looks among random jobs for the smallest that tells a wrong reading apart, inside the domain.
