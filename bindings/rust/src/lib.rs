@@ -54,6 +54,17 @@
 //! assert_eq!(answer, Dc::Ended { verdict: Verdict::Settled, passes: 7, behind: None });
 //! assert!((volt - 0.7447).abs() < 1e-4);
 //! ```
+//!
+//! A pattern that starts away from zero, as a bias ramp does, has a NaN for its level at time 0, as in the Rust engine. With the option
+//! `pattern_first` it has its first level there, and without repeat its last level from its end on:
+//!
+//! ```
+//! use savrunte::{pattern, pattern_first, points};
+//!
+//! let ramp = points(&[(0.0, 3.0), (1.0, 4.0)]);
+//! assert!(pattern(&ramp, 0.0, -1.0, 0.0).is_nan());
+//! assert_eq!([0.0, 0.5, 1.0, 7.0].map(|t| pattern_first(&ramp, 0.0, -1.0, t)), [3.0, 3.5, 4.0, 4.0]);
+//! ```
 
 mod raw;
 mod record;

@@ -264,6 +264,55 @@ fn convergence_answers() {
     assert_eq!(convergence_check(&[0.0, 1.0], &[0.0], 2, o), Convergence::Refused(Refusal::Room));
 }
 
+/// Each sentence of the rule with the option on, in its order: (points, delay, repeat, time) and the level.
+fn patterns_by_the_option() {
+    let (zero, ramp, late) = ([(0.0, 0.0), (1.0, 4.0)], [(0.0, 3.0), (1.0, 4.0)], [(1.0, 3.0), (2.0, 5.0)]);
+    let cases: &[(&[(f64, f64)], f64, f64, f64, f64)] = &[
+        (&[], 0.0, -1.0, 0.5, 0.0),                  // no points
+        (&ramp, 1.0, -1.0, 0.5, 0.0),                // before the delay
+        (&ramp, 1.0, -1.0, 1.0, 3.0),                // at it
+        (&zero, 0.0, -1.0, 1.0, 4.0),                // at the end, where without the option it is 0
+        (&zero, 0.0, -1.0, 2.0, 4.0),                // past it
+        (&ramp, 0.0, -0.0, 1.0, 3.0),                // a repeat of -0.0 repeats
+        (&ramp, 0.0, f64::NAN, 1.0, 3.0),            // and so does one that is no number
+        (&[(-2.0, 7.0)], 0.0, 1.0, 0.5, 7.0),        // a single point
+        (&ramp, 0.0, -1.0, 0.0, 3.0),                // at the first point's time
+        (&late, 0.0, -1.0, 0.0, 3.0),                // before it
+        (&[(0.0, 3.0), (0.0, 4.0)], 0.0, 1.0, 0.5, 3.0), // a cycle time that is no number
+        (&ramp, 0.0, -1.0, 0.5, 3.5),                // as before
+        (&late, 0.0, -1.0, 1.5, 4.0),
+    ];
+    for (pairs, delay, repeat, t, level) in cases {
+        assert_eq!(pattern_first(&points(pairs), *delay, *repeat, *t).to_bits(), level.to_bits(), "{pairs:?} at {t}");
+    }
+    // the end is a sum of floats: at this time it is not reached, and the cycle is over
+    assert_eq!(pattern_first(&points(&[(0.0, 3.0), (1.4, 4.0)]), 0.39, -1.0, f64::from_bits(0x3ffc_a3d7_0a3d_70a3)), 3.0);
+}
+
+/// A ramp that starts at 3 V drives node 1 from time 0 on, at DC and through a transient; any word but 0 is on.
+#[test]
+fn a_ramp_starts_at_its_first_level() {
+    let sheet = Record::sheet(&[
+        Record::Vpwl { p: 1, n: 0, t_delay: 0.0, repeat: -1.0, first: 0, count: 2, source: 0 },
+        Record::R { p: 1, n: 0, value: 1.0 },
+    ]);
+    let ramp = points(&[(0.0, 3.0), (1.0, 4.0)]);
+    for (word, level, passes) in [(0, 0.0, 1), (1, 3.0, 2), (2, 3.0, 2), (1 << 63, 3.0, 2), (u64::MAX, 3.0, 2)] {
+        let mut lent = Lent::new(2, 1, 2);
+        let options = Options { pattern_first: word, ..Options::bench() };
+        let answer = dc_operating_point(&sheet, &ramp, 2, 1, options, &mut lent.buffers());
+        assert_eq!(answer, ended(Verdict::Settled, passes));
+        assert_eq!(lent.vector, [0.0, level, -level]);
+    }
+    let mut lent = Lent::new(2, 1, 2);
+    let mut rows = [0.0; 16];
+    let options = Options { pattern_first: 1, ..Options::bench() };
+    let answer = transient_analysis(&sheet, &ramp, 2, 1, options, &mut lent.buffers(), &mut rows);
+    let (verdict, dc_verdict) = (Verdict::Settled, Verdict::Settled);
+    assert_eq!(answer, Transient::Ended { verdict, dc_verdict, passes: 8, rows: 4, end: 2.0, behind: None });
+    assert_eq!(rows, [0.0, 0.0, 3.0, -3.0, 1.0, 0.0, 4.0, -4.0, 2.0, 0.0, 4.0, -4.0, 2.0, 0.0, 4.0, -4.0]);
+}
+
 #[test]
 fn functions_and_models() {
     assert_eq!((exp(0.0), exp(-0.0), exp(710.0), exp(-709.0)), (1.0, 1.0, f64::INFINITY, 0.0));
@@ -278,6 +327,7 @@ fn functions_and_models() {
     let levels: Vec<f64> = [0.5, 1.0, 2.0, -0.5].iter().map(|t| pattern(&g, 0.0, -1.0, *t)).collect();
     assert_eq!(bits(&levels), bits(&[2.0, 0.0, 4.0, 0.0]));
     assert!(pattern(&points(&[(0.0, 3.0), (1.0, 4.0)]), 0.0, -1.0, 0.0).is_nan());
+    patterns_by_the_option();
     assert_eq!(capacitor(1.0, 3.0, 0.5), (2.0, 6.0));
     assert_eq!(diode(f64::INFINITY, 27.0, 0.5, 0.0, Options::bench()), Diode::NotFinite);
 }

@@ -1,3 +1,4 @@
 -- The bench's cases, computed from the definitions.
 pub mod Cases
 pub mod Lie
+pub mod Ramp

@@ -86,7 +86,7 @@ run transient itl1 nodes srcs s =
     engine.runOf (engine.callOf (bench itl1) transient nodes srcs s [] m (buffersOf m m (fives n) y w))
 
 -- verdict (or refusal), DC verdict, passes and rows
-abbrev told : Outcome → List ℕ
+abbrev pub told : Outcome → List ℕ
 told r = let t = outcome.numbersOf r in outcome.numberOf r ∷ t .dc ∷ t .passes ∷ t .rows ∷ []
 
 -- a DC run: what is told, and the vector
