@@ -8,8 +8,9 @@ Nodes: 0 ground, 1 the 5 V supply, 2 the light on the detector, 3 the bias strin
 Sources: 0 the supply, 1 the light, 2 the reference's buffer, 3 the amplifier's buffer.
 
 Jobs: 0 the DC operating point and 1 the transient, both judged; 2 is DC with too few passes, 3 has a record with a node that is not there.
-4 is switched on while its supply, and with it the bias, ramps from 4 V to 5 V: with the option pattern_first the DC point is that of 4 V, the
-transient follows the ramp, and ends at 5 V to the bit. 5 is the same job without the option: the level at time 0 is no number, and DC says so.
+4 is a transient, judged, while the supply ramps from 4 V to 5 V and the bias with it: with the option pattern_first the DC point is that of 4 V,
+the rows follow the ramp and the last ones have 5 V to the bit. 5 is the same job without the option: at time 0 the ramp's level is no number, DC ends
+with 21 (convergence error) and the transient with 22 in its first pass.
 """
 import os
 import struct
@@ -94,7 +95,7 @@ def options(tstart, tstop, tstep): return struct.pack('<13d', 1e-9, 1e-9, 1e-12,
 
 
 OPTIONS = options(9e-6, 1.8e-5, 1e-7)
-# through the ramp, row by row, and before the flash
+# through the ramp, which is over before the flash: every row, also while the capacitors, which begin empty, fill
 RAMP_OPTIONS = options(0.0, 9e-6, 5e-7)
 POINT_BYTES, RAMP_BYTES = (b''.join(struct.pack('<dd', *p) for p in points) for points in (POINTS, RAMP))
 # row 0 is empty; amperes at the nodes, volts at the sources
