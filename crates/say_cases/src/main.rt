@@ -27,13 +27,7 @@ fn all(p: Pen) {
 // A job that is refused, one of DC, and transients with rows and without.
 fn jobs(p: Pen) -> Pen {
     let q = say::refused(
-        say::heading(
-            p,
-            false,
-            9007199254740992,
-            9007199254740993,
-            switches(0, 0),
-        ),
+        say::heading(p, false, 9007199254740992, 9007199254740993, switches(0, 0)),
         8,
         41,
     );
