@@ -5,3 +5,4 @@ pub mod Listed
 pub mod Stamping
 pub mod SineAtZero
 pub mod Numbers
+pub mod Ramp

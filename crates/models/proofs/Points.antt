@@ -1,6 +1,6 @@
--- Laws of a pattern's points: past the end of the bytes a point is (0, 0), a part is its first point and the rest, and the last of a part stands at its end.
+-- Laws of a pattern's points, as the functions read them: past the end of the bytes a point is (0, 0), and a part is its first point and the rest.
 use Prim.Native.Nat.{ℕ, zero, suc, _+_, _-_, _*_, _/_, _<_}
-use mathlib.Core.Path.{_≡_, refl, sym, _∙_}
+use mathlib.Core.Path.{_≡_, refl, sym}
 use mathlib.Core.Bool.{Bool, true, false, not, cond}
 use mathlib.Core.List.{List, _∷_}
 use native.Mathlib.Nat.{add-zero}
@@ -14,7 +14,8 @@ use Rattle.num.specs.laws.Past.{past64}
 use Rattle.num.specs.Floats.{nought}
 use Rattle.models.specs.Signs.{_⊕_, _⊖_}
 use Rattle.models.specs.declared.vpwl.Point.{Point}
-use Rattle.models.specs.Vpwl.{pointAt, pointsFrom, lastOf, between, patternAt, levelAt, single, atEnd, patternFirst}
+use Rattle.models.specs.laws.Points.{last-at, further, found}
+use Rattle.models.specs.Vpwl.{pointAt, pointsFrom, between, patternAt, levelAt, single, atEnd, patternFirst}
 
 pub past-point : (s : List ℕ) (k : ℕ) → length s / 16 < k → pointAt s k ≡ record { time = nought; level = nought }
 unfolding pointAt floatAt
@@ -26,13 +27,6 @@ cut s k n i h =
     let e : n - i ≡ suc (n - (i + 1)) = omega arith in
     let f : k + i + 1 ≡ k + (i + 1) = omega arith in
     rw (e, f)
-
-pub last-at : (s : List ℕ) (k n : ℕ) → lastOf (pointAt s k) (pointsFrom s (k + 1) n) ≡ pointAt s (k + n)
-unfolding lastOf pointsFrom
-last-at s k zero = rw add-zero
-last-at s k (suc n) =
-    let e : k + 1 + n ≡ k + suc n = omega arith in
-    last-at s (k + 1) n ∙ rw e
 
 pub some-points : (s : List ℕ) (k n : ℕ) (delay repeat t : Float) → 0 < n → patternAt (pointsFrom s k n) delay repeat t ≡ levelAt (pointsFrom s k n) (pointAt s (k + (n - 1))) delay repeat t
 unfolding patternAt pointsFrom
@@ -61,14 +55,6 @@ pub no-point : (tc t1 v1 : Float) (s : List ℕ) (k n : ℕ) → n ≡ 0 → bet
 unfolding between pointsFrom
 no-point tc t1 v1 s k zero e = refl
 no-point tc t1 v1 s k (suc n) e = absurd (omega arith)
-
-further : (tc t1 v1 : Float) (p : Point) (ps : List Point) → lt (p .time) tc ≡ true → between tc t1 v1 (p ∷ ps) ≡ between tc (p .time) (p .level) ps
-unfolding between
-further tc t1 v1 p ps t = rw (t, between)
-
-found : (tc t1 v1 : Float) (p : Point) (ps : List Point) → lt (p .time) tc ≡ false → between tc t1 v1 (p ∷ ps) ≡ record { t1 = t1; v1 = v1; t2 = p .time; v2 = p .level }
-unfolding between
-found tc t1 v1 p ps t = rw (t, between)
 
 module _ (tc t1 v1 : Float) (s : List ℕ) (k n i : ℕ) (h : i < n) (p : Point) (e : p ≡ pointAt s (k + i)) where
   pub beyond : lt (p .time) tc ≡ true → between tc t1 v1 (pointsFrom s (k + i) (n - i)) ≡ between tc (p .time) (p .level) (pointsFrom s (k + (i + 1)) (n - (i + 1)))

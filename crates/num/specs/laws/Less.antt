@@ -1,4 +1,4 @@
--- The order `<` of floats, infinities and NaN included: it holds of no number and itself, from step to step, and of a finite number with one of any two that it parts. Clients cite no, lt-self, lt-trans and lt-either. Assumes nothing.
+-- The order `<` of floats, infinities and NaN included: it holds of no number and itself, from step to step, and of a finite number with one of any two that it parts. Clients cite no, le-or-lt, lt-self, lt-trans and lt-either. Assumes nothing.
 use Prim.Native.Nat.{ℕ, _+_, _*_, _<_, _≤_}
 use mathlib.Core.Path.{_≡_, refl, ap, _∙_}
 use mathlib.Core.Logic.{_⊎_, inl, inr, ⊎-elim}
@@ -16,7 +16,7 @@ pub no : {A : Type 0} → false ≡ true → A
 no e = absurd (let z : _≡_ {A = ℕ} 0 1 = ap (λ (b : Bool). cond b 1 0) e in omega arith)
 
 -- at most, or above
-le-or-lt : (a b : ℕ) → (a ≤ b) ⊎ (b < a)
+pub le-or-lt : (a b : ℕ) → (a ≤ b) ⊎ (b < a)
 le-or-lt a b = go (leb a b) refl
   where
     go : (t : Bool) → leb a b ≡ t → (a ≤ b) ⊎ (b < a)
