@@ -8,13 +8,16 @@
 
 #include "savrunte.h"
 
-/* The words of a job's numbers, the options among them, and room for any job that runs, as docs/FORMATS.md names it; all of it starts as zeros. */
-enum { HEAD = 29, OPTIONS = 17, CELLS = 2360, UNKNOWNS = 64, MEMORY = 264, ROWS = 32768, SHEET = 10480, POINTS = 16640 };
+/* Words of a job's head in form 1, the options among them; those of form 2 that are known here, and the most that there can be. */
+enum { FORM_1 = 29, OPTIONS_1 = 17, KNOWN = 32, MOST = 64 };
+
+/* Room for any job that runs, as docs/FORMATS.md names it; all of it starts as zeros. */
+enum { CELLS = 2360, UNKNOWNS = 64, MEMORY = 264, ROWS = 32768, SHEET = 10480, POINTS = 16640 };
 
 /* A job's numbers, and then what follows in the file. */
 typedef struct job {
     uint64_t transient, nodes, sources;
-    savrunte_options options; /* form 1 has no catchup: it is off */
+    savrunte_options options;
     uint64_t sheet_len, points_len, lent[6]; /* floats lent: base, system, elimination, vector, memory, rows */
     uint8_t sheet[SHEET], points[POINTS];
     double tolerances[UNKNOWNS];
@@ -36,18 +39,38 @@ static void take(FILE *file, void *to, size_t n, size_t room) {
     }
 }
 
-static job next_job(FILE *file) {
+/* Reads a head into its words where form 2 has them, and answers its bytes in the file. A word that is not there is 0: an option that is off. */
+static size_t read_head(FILE *file, int form, uint64_t w[MOST]) {
+    take(file, w, 8, 8);
+    w[1] = FORM_1 + 1;
+    if (form == 2) {
+        take(file, w + 1, 8, 8);
+    }
+    if (w[1] < 2 || w[1] > MOST) {
+        stop("A head has a number of words that no head has.");
+    }
+    take(file, w + 2, 8 * (w[1] - 2), 8 * (MOST - 2));
+    for (int k = KNOWN; k < MOST; k++) {
+        if (w[k] != 0) {
+            stop("A job asks for what is not known here.");
+        }
+    }
+    return 8 * (form == 2 ? w[1] : FORM_1);
+}
+
+static job next_job(FILE *file, int form) {
     job j;
-    uint64_t w[HEAD];
+    uint64_t w[MOST] = {0};
     memset(&j, 0, sizeof j);
-    take(file, w, sizeof w, sizeof w);
-    j.transient = w[1], j.nodes = w[2], j.sources = w[3];
-    memcpy(&j.options, w + 4, 8 * OPTIONS);
-    j.sheet_len = w[21], j.points_len = w[22];
-    memcpy(j.lent, w + 23, sizeof j.lent);
+    size_t head = read_head(file, form, w);
+    j.transient = w[2], j.nodes = w[3], j.sources = w[4];
+    memcpy(&j.options, w + 5, 8 * OPTIONS_1);
+    j.options.catchup = w[30], j.options.pattern_first = w[31];
+    j.sheet_len = w[22], j.points_len = w[23];
+    memcpy(j.lent, w + 24, sizeof j.lent);
     take(file, j.sheet, j.sheet_len, sizeof j.sheet);
     take(file, j.points, j.points_len, sizeof j.points);
-    size_t left = w[0] - sizeof w - (j.sheet_len + 7) / 8 * 8 - (j.points_len + 7) / 8 * 8;
+    size_t left = w[0] - head - (j.sheet_len + 7) / 8 * 8 - (j.points_len + 7) / 8 * 8;
     take(file, j.tolerances, left, sizeof j.tolerances);
     j.rows_judged = left / 8;
     return j;
@@ -77,7 +100,7 @@ static uint64_t bits(double x) {
 
 /* The fields that the records below have, each kind with its own header line. */
 static void print_headers(void) {
-    printf("#job\tfile\tjob\tanalysis\tnodes\tsources\n"
+    printf("#job\tfile\tjob\tanalysis\tnodes\tsources\tcatchup\tpattern_first\n"
            "#refused\tfile\tjob\tnumber\tplace\n"
            "#ended\tfile\tjob\tverdict\tdc_verdict\tpasses\trows\tend_bits\tbehind\n"
            "#unknown\tfile\tjob\tof\tindex\tvalue_bits\n"
@@ -120,7 +143,8 @@ static void run_and_print(uint64_t k, const job *j) {
         j->lent[5] > ROWS) {
         stop("The job wants larger buffers than there are.");
     }
-    printf("job\t0\t%" PRIu64 "\t%s\t%" PRIu64 "\t%" PRIu64 "\n", k, j->transient == 1 ? "transient" : "dc", j->nodes, j->sources);
+    printf("job\t0\t%" PRIu64 "\t%s\t%" PRIu64 "\t%" PRIu64 "\t%" PRIu64 "\t%" PRIu64 "\n", k, j->transient == 1 ? "transient" : "dc", j->nodes,
+           j->sources, j->options.catchup, j->options.pattern_first);
     savrunte_transient_answer a = run(j);
     if (a.refusal != 0) {
         printf("refused\t0\t%" PRIu64 "\t%" PRIu64 "\t%" PRIu64 "\n", k, a.refusal, a.place);
@@ -138,12 +162,16 @@ static void run_and_print(uint64_t k, const job *j) {
 int main(int argc, char **argv) {
     FILE *file = argc == 2 ? fopen(argv[1], "rb") : NULL;
     uint64_t head[4];
-    if (file == NULL || fread(head, 1, 32, file) != 32 || memcmp(head, "SAVJOBS1", 8) != 0) {
+    int form = 0;
+    if (file != NULL && fread(head, 1, 32, file) == 32) {
+        form = memcmp(head, "SAVJOBS1", 8) == 0 ? 1 : memcmp(head, "SAVJOBS2", 8) == 0 ? 2 : 0;
+    }
+    if (form == 0) {
         stop("usage: front_end FILE, a file of jobs (docs/FORMATS.md)");
     }
     print_headers();
     for (uint64_t k = 0; k < head[1]; k++) {
-        job j = next_job(file);
+        job j = next_job(file, form);
         run_and_print(k, &j);
     }
     fclose(file);

@@ -8,6 +8,9 @@ Nodes: 0 ground, 1 the 5 V supply, 2 the light on the detector, 3 the bias strin
 Sources: 0 the supply, 1 the light, 2 the reference's buffer, 3 the amplifier's buffer.
 
 Jobs: 0 the DC operating point and 1 the transient, both judged; 2 is DC with too few passes, 3 has a record with a node that is not there.
+4 is a transient, judged, while the supply ramps from 4 V to 5 V and the bias with it: with the option pattern_first the DC point is that of 4 V,
+the rows follow the ramp and the last ones have 5 V to the bit. 5 is the same job without the option: at time 0 the ramp's level is no number, DC ends
+with 21 (convergence error) and the transient with 22 in its first pass.
 """
 import os
 import struct
@@ -34,6 +37,10 @@ def vccs(p, n, cp, cn, siemens): return record(10, p, n, controls=(cp, cn), floa
 
 # the light: a flash with a quick rise and a slow fall
 POINTS = [(0.0, 0.0), (1e-7, 1.0), (5e-7, 0.6), (1.5e-6, 0.1), (3e-6, 0.0), (1e-3, 0.0)]
+
+
+# the ramp of the supply, behind them
+RAMP = [(0.0, 4.0), (6e-6, 5.0)]
 
 
 def records(part):
@@ -77,20 +84,31 @@ def records(part):
     ]
 
 
+def ramped(nominal):
+    """The same front end with the ramp for its supply."""
+    return [pattern(1, 0, 0, len(POINTS), len(RAMP), 0.0, -1.0)] + nominal[1:]
+
+
 # RELTOL, VNTOL, ABSTOL, TSTART, TSTOP, TSTEP, FS, FT, RMIN, RMAX, GMIN, BOLTZMANN, CHARGE. RELTOL is small because with 1e-3 the bias string settles
 # falsely at 5 V (docs/DIFFERENCES.md, "False settling"); rows begin when the empty capacitors have filled.
-OPTIONS = struct.pack('<13d', 1e-9, 1e-9, 1e-12, 9e-6, 1.8e-5, 1e-7, 0.5, 0.25, 1e-3, 2.0, 1e-12, 1.3806488e-23, 1.603e-19)
-POINT_BYTES = b''.join(struct.pack('<dd', *p) for p in POINTS)
+def options(tstart, tstop, tstep): return struct.pack('<13d', 1e-9, 1e-9, 1e-12, tstart, tstop, tstep, 0.5, 0.25, 1e-3, 2.0, 1e-12, 1.3806488e-23, 1.603e-19)
+
+
+OPTIONS = options(9e-6, 1.8e-5, 1e-7)
+# through the ramp, which is over before the flash: every row, also while the capacitors, which begin empty, fill
+RAMP_OPTIONS = options(0.0, 9e-6, 5e-7)
+POINT_BYTES, RAMP_BYTES = (b''.join(struct.pack('<dd', *p) for p in points) for points in (POINTS, RAMP))
 # row 0 is empty; amperes at the nodes, volts at the sources
 TOLERANCES = [0.0] + [1e-12] * (NODES - 1) + [1e-9] * SOURCES
 
 
-def job(sheet, transient=0, rows=0, itl1=50, tolerances=()):
+def job(sheet, transient=0, rows=0, itl1=50, tolerances=(), options=OPTIONS, points=POINT_BYTES, pattern_first=0):
+    """A job of form 2; its last two words are the options catchup, which stays off, and pattern_first."""
     cells = N * (N + 1)
     lent = [cells, cells, cells, N, len(sheet) // 40, rows * (N + 1)]
-    body = struct.pack('<3Q', transient, NODES, SOURCES) + OPTIONS + struct.pack('<4Q', itl1, 8, 20, 10000)
-    body += struct.pack('<2Q', len(sheet), len(POINT_BYTES)) + struct.pack('<6Q', *lent)
-    body += sheet + POINT_BYTES + struct.pack('<%dd' % len(tolerances), *tolerances)
+    body = struct.pack('<4Q', 32, transient, NODES, SOURCES) + options + struct.pack('<4Q', itl1, 8, 20, 10000)
+    body += struct.pack('<2Q', len(sheet), len(points)) + struct.pack('<6Q', *lent) + struct.pack('<2Q', 0, pattern_first)
+    body += sheet + points + struct.pack('<%dd' % len(tolerances), *tolerances)
     return struct.pack('<Q', len(body) + 8) + body
 
 
@@ -98,10 +116,12 @@ def main():
     nominal = records(lambda value, tolerance: value)
     sheet = b''.join(nominal)
     damaged = b''.join(nominal[:8] + [current(NODES, 5, 2e-9)] + nominal[9:])
+    ramp = dict(sheet=b''.join(ramped(nominal)), transient=1, rows=40, tolerances=TOLERANCES, options=RAMP_OPTIONS, points=POINT_BYTES + RAMP_BYTES)
     jobs = [job(sheet, tolerances=TOLERANCES), job(sheet, transient=1, rows=400, tolerances=TOLERANCES), job(sheet, itl1=4), job(damaged)]
+    jobs += [job(**ramp, pattern_first=1), job(**ramp)]
     path = os.path.join(os.path.dirname(os.path.abspath(__file__)), 'front_end.jobs')
     with open(path, 'wb') as f:
-        f.write(b'SAVJOBS1' + struct.pack('<3Q', len(jobs), max(map(len, jobs)), 0) + b''.join(jobs))
+        f.write(b'SAVJOBS2' + struct.pack('<3Q', len(jobs), max(map(len, jobs)), 0) + b''.join(jobs))
 
 
 if __name__ == '__main__':

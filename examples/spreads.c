@@ -12,8 +12,8 @@
 /* The largest call: 256 jobs of 256 records of 40 bytes, 48 unknowns, 1,024 points of 16 bytes. */
 enum { JOBS = 256, RECORDS = 256, N = 48, CELLS = N * (N + 1), NUMBERS = 27, CAUSES = 29, LIMBS = 66 };
 
-/* Words of a head in form 1, the options among them, and the most that a head of form 2 has; a file has as many tolerances at most. */
-enum { FORM_1 = 24, OPTIONS_1 = 17, MOST = 64 };
+/* Words of a head in form 1, the options among them; those of form 2 that are known here, and the most that there can be; a file has as many tolerances at most. */
+enum { FORM_1 = 24, OPTIONS_1 = 17, KNOWN = 32, MOST = 64 };
 
 /* What the file asks for. */
 typedef struct asked {
@@ -53,17 +53,22 @@ static asked read_head(FILE *file) {
         stop("The head has a number of words that no head has.");
     }
     take(file, w + 2, 8 * (count - 2), sizeof w - 16);
+    for (int k = 26; k < MOST; k++) {
+        if (w[k] != 0 && (k < 30 || k >= KNOWN)) {
+            stop("The head asks for what is not known here.");
+        }
+    }
     asked a;
     a.jobs = w[2], a.nodes = w[3], a.sources = w[4];
     a.sheets_len = w[22], a.points_len = w[23], a.unknown = w[24], a.tolerances = w[25];
     memcpy(&a.options, w + 5, 8 * OPTIONS_1);
-    a.options.catchup = w[30];
+    a.options.catchup = w[30], a.options.pattern_first = w[31];
     return a;
 }
 
 /* The fields that the records below have, each kind with its own header line. */
 static void print_headers(void) {
-    printf("#spreads\tfile\tjobs\tnodes\tsources\tof\tindex\ttolerances\tcatchup\n"
+    printf("#spreads\tfile\tjobs\tnodes\tsources\tof\tindex\ttolerances\tcatchup\tpattern_first\n"
            "#call_refused\tfile\tnumber\n"
            "#count\tfile\tnumber\tjobs\n"
            "#total\tfile\truns\tjobs\n"
@@ -184,7 +189,8 @@ int main(int argc, char **argv) {
     fclose(file);
     int node = a.unknown < a.nodes;
     print_headers();
-    printf("spreads\t0\t%" PRIu64 "\t%" PRIu64 "\t%" PRIu64 "\t%s\t%" PRIu64 "\t%" PRIu64 "\t%" PRIu64 "\n", a.jobs, a.nodes, a.sources, node ? "node" : "source", node ? a.unknown : a.unknown - a.nodes, a.tolerances, a.options.catchup);
+    printf("spreads\t0\t%" PRIu64 "\t%" PRIu64 "\t%" PRIu64 "\t%s\t%" PRIu64 "\t%" PRIu64 "\t%" PRIu64 "\t%" PRIu64 "\n", a.jobs, a.nodes, a.sources,
+           node ? "node" : "source", node ? a.unknown : a.unknown - a.nodes, a.tolerances, a.options.catchup, a.options.pattern_first);
     uint64_t refusal = run_and_print(&a);
     if (refusal != 0) {
         printf("call_refused\t0\t%" PRIu64 "\n", refusal);

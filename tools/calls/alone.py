@@ -8,9 +8,9 @@ from fractions import Fraction
 
 OF_DC = [0, 6, 7, 8, 9, 10, 20, 21, 22, 24]  # the numbers that a DC job can have of its own
 REFUSED, BEHIND, REJECTED = 11, 27, 28  # the causes of a settled run that is not sound
-HEAD, WORDS = 31, 64  # the words of a head that are known, and the most that there can be
+HEAD, WORDS = 32, 64  # the words of a head that are known, and the most that there can be
 
-Call = namedtuple('Call', 'jobs nodes sources options sheets points unknown tolerances catchup')
+Call = namedtuple('Call', 'jobs nodes sources options sheets points unknown tolerances catchup pattern_first')
 Run = namedtuple('Run', 'number place passes cause cause_place value volts')
 
 
@@ -30,7 +30,7 @@ def read(content):
     for size in head[22], head[23], 8 * head[25]:
         parts.append(content[at:at + size])
         at += len(filled(parts[-1]))
-    return Call(head[2], head[3], head[4], struct.pack('<17Q', *head[5:22]), parts[0], parts[1], head[24], parts[2], head[30])
+    return Call(head[2], head[3], head[4], struct.pack('<17Q', *head[5:22]), parts[0], parts[1], head[24], parts[2], *head[30:32])
 
 
 def jobs_of(call):
@@ -40,8 +40,8 @@ def jobs_of(call):
     for i in range(call.jobs):
         sheet = call.sheets[i * size:(i + 1) * size]
         lent = struct.pack('<6Q', *[n * (n + 1)] * 3, n, size // 40, 0)
-        body = struct.pack('<4Q', HEAD, 0, call.nodes, call.sources) + call.options + struct.pack('<2Q', size, len(call.points)) + lent + struct.pack('<Q', call.catchup)
-        body += filled(sheet) + filled(call.points) + call.tolerances[:8 * n]
+        body = struct.pack('<4Q', HEAD, 0, call.nodes, call.sources) + call.options + struct.pack('<2Q', size, len(call.points)) + lent
+        body += struct.pack('<2Q', call.catchup, call.pattern_first) + filled(sheet) + filled(call.points) + call.tolerances[:8 * n]
         all_jobs.append(struct.pack('<Q', len(body) + 8) + body)
     return b'SAVJOBS2' + struct.pack('<3Q', call.jobs, max(map(len, all_jobs)), 0) + b''.join(all_jobs)
 
@@ -89,7 +89,7 @@ def expected(call, records):
     runs = list(runs_of(call, records))
     of, index = ('node', call.unknown) if call.unknown < call.nodes else ('source', call.unknown - call.nodes)
     tolerances = len(call.tolerances) // 8
-    found = [{'kind': 'spreads', 'jobs': call.jobs, 'nodes': call.nodes, 'sources': call.sources, 'of': of, 'index': index, 'tolerances': tolerances, 'catchup': call.catchup}]
+    found = [{'kind': 'spreads', 'jobs': call.jobs, 'nodes': call.nodes, 'sources': call.sources, 'of': of, 'index': index, 'tolerances': tolerances, 'catchup': call.catchup, 'pattern_first': call.pattern_first}]
     found += [{'kind': 'count', 'number': k, 'jobs': sum(r.number == k for r in runs)} for k in OF_DC]
     found += [{'kind': 'total', 'runs': len(runs), 'jobs': call.jobs}, {'kind': 'sound', 'sound': sum(r.cause == 0 for r in runs), 'jobs': call.jobs}]
     causes = OF_DC + [BEHIND] + [REFUSED, REJECTED] * bool(tolerances)

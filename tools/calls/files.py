@@ -14,7 +14,7 @@ OPTIONS = {'reltol': 1e-3, 'vntol': 1e-6, 'abstol': 1e-6, 'tstart': 0.0, 'tstop'
 # words of a head of form 1: how many a job and a file of spreads have, and the places of some; in form 2 they stand one place further on, behind their number
 JOB_HEAD, SPREADS_HEAD = 29, 24
 BYTES, ANALYSIS, JOBS, NODES, SOURCES, SHEET, POINTS = 0, 1, 1, 2, 3, 21, 22
-NUMBER_2, ANALYSIS_2, TOLERANCES_2, CATCHUP_2, KNOWN_2 = 1, 2, 25, 30, 31
+NUMBER_2, ANALYSIS_2, TOLERANCES_2, PATTERN_FIRST_2, KNOWN_2 = 1, 2, 25, 31, 32
 
 
 def words(*all):
@@ -72,9 +72,14 @@ def waiting(b, catchup=1):
     return form2(b, JOB_HEAD, more=[catchup])
 
 
-def judged_spreads(b, tolerances, catchup=0):
-    """A file of spreads of form 1 as one of form 2 with tolerances and the option catchup."""
-    return spreads2(b, more=[len(tolerances), 0, 0, 0, 0, catchup]) + struct.pack(f'<{len(tolerances)}d', *tolerances)
+def first(b, pattern_first=1, catchup=0):
+    """A job of form 1 as one of form 2 with the option pattern_first."""
+    return form2(b, JOB_HEAD, more=[catchup, pattern_first])
+
+
+def judged_spreads(b, tolerances, catchup=0, *later):
+    """A file of spreads of form 1 as one of form 2 with tolerances, the option catchup, and those whose words stand behind it."""
+    return spreads2(b, more=[len(tolerances), 0, 0, 0, 0, catchup, *later]) + struct.pack(f'<{len(tolerances)}d', *tolerances)
 
 
 # circuits: document 01's cases a (one volt), b (a divider), c (a source from ground to ground) and j (a capacitor); a node that hangs on a capacitor alone; a diode that is never finite; one that is held back
@@ -92,6 +97,29 @@ def rectifier(volts):
 
 
 POINT = struct.pack('<2d', 1.0, 1.0)
+
+# points of document 01's cases g and h, and a pattern whose first point stands after time 0
+LEVELS = [(0.0, 0.0), (1.0, 4.0), (0.0, 3.0), (1.0, 4.0), (0.5, 3.0), (1.0, 4.0)]
+LEVEL_BYTES = b''.join(struct.pack('<2d', *p) for p in LEVELS)
+# patterns of them: the first point and how many, the delay, and whether it repeats (not below zero)
+CASE_H = (2, 2, 0.0, -1.0)
+PATTERNS = [(0, 2, 0.0, -1.0), CASE_H, (2, 2, 0.5, -1.0), (2, 2, -0.25, -1.0), (2, 2, 0.0, 0.0), (2, 2, 0.5, 1.0), (4, 2, 0.0, -1.0), (4, 2, 0.25, 1.0), (3, 1, 0.0, -1.0), (3, 1, 0.5, 1.0),
+            (2, 1, 0.0, -1.0), (2, 1, 0.0, 1.0), (1, 5, 0.0, -1.0), (0, 0, 0.0, -1.0)]
+MOVING = dict(transient=True, rows=12, tstep=0.25, tstop=2.0)
+
+
+def driven(shape, *more):
+    """The records of one ohm across a pattern: with levels such as these its node has the pattern's level to the bit."""
+    return [pattern(1, 0, 0, *shape), resistor(1, 0, 1.0), *more]
+
+
+def ramp(shape, **how):
+    return job(driven(shape), sources=1, points=LEVEL_BYTES, **how)
+
+
+def beside(shape, **how):
+    """The same beside another source: here a level that is no number is not hidden by the last unknown."""
+    return job(driven(shape, voltage(2, 0, 1, 1.0)), nodes=3, sources=2, points=LEVEL_BYTES, **how)
 
 
 def divider(**how):
@@ -206,7 +234,7 @@ def heads_of_jobs():
     yield two('long-head', 'ended 0, accepted', SURE, None, form2(judged, JOB_HEAD, more=[0] * 34))
     yield two('short-head', 'refused 1 at 0', DOUBT, None, form2(job([], nodes=0), JOB_HEAD, size=2))
     yield two('head-without-rows', 'ended 0', SURE, None, form2(good, JOB_HEAD, size=29))
-    yield two('unknown-word', 'ended 0', FAULT, unknown_head(1), form2(good, JOB_HEAD), form2(good, JOB_HEAD, more=[0, 1]), form2(good, JOB_HEAD))
+    yield two('unknown-word', 'ended 0', FAULT, unknown_head(1), form2(good, JOB_HEAD), form2(good, JOB_HEAD, more=[0, 0, 1]), form2(good, JOB_HEAD))
     held = job(rectifier(5.0), nodes=3, sources=1, itl=(100, 0, 10))
     yield two('caught-up', 'ended 0; ended 0 behind 3; ended 0', DOUBT, None, waiting(held), waiting(held, 0), waiting(held, 2**64 - 1))
     yield two('caught-up-alone', 'ended 0', SURE, None, waiting(held))
@@ -214,12 +242,36 @@ def heads_of_jobs():
     yield two('caught-late', 'ended 20 behind 3', DOUBT, None, waiting(job(rectifier(5.0), nodes=3, sources=1, itl=(3, 0, 10))))
     yield two('moving-waiting', 'ended 0 dc 0 rows 4', SURE, None, waiting(job(rectifier(5.0), nodes=3, sources=1, itl=(100, 0, 10), transient=True, rows=9)))
     yield two('waiting-without-diode', 'ended 0', SURE, None, waiting(good))
+    yield from heads_of_patterns(two, good)
     yield two('unknown-last-word', '', FAULT, unknown_head(0), form2(good, JOB_HEAD, more=[0] * 33 + [1]))
     for n in (0, 1, 65, 2**32 + 30, 2**64 - 1):
         yield two(f'head-of-{n}', '', FAULT, unknown_head(0), put(form2(good, JOB_HEAD), NUMBER_2, n) + bytes(600))
     for n in (2, 256, 2**64 - 1):
         yield File(f'analysis-{n}', 'jobs', jobs(good, put(good, ANALYSIS, n), good), 'ended 0', FAULT, unknown_head(1))
         yield two(f'analysis-{n}-2', '', FAULT, unknown_head(0), put(form2(good, JOB_HEAD), ANALYSIS_2, n))
+
+
+def heads_of_patterns(two, good):
+    """The option pattern_first: at DC and through a transient, with every word that is on and every head that has it off; and damaged heads of that length."""
+    all_ramps = [ramp(shape, **how) for shape in PATTERNS for how in ({}, MOVING)]
+    says = '; '.join(['ended 0', 'ended 0 dc 0 rows 10'] * len(PATTERNS))
+    for name, switch in ('', 1), ('-huge', 2**63), ('-all-ones', 2**64 - 1), ('-0', 0):
+        yield two('ramps' + name, says, SURE, None, *[first(j, switch) for j in all_ramps])
+    yield two('ramps-30', says, SURE, None, *[form2(j, JOB_HEAD) for j in all_ramps])
+    yield two('ramps-31', says, SURE, None, *[waiting(j) for j in all_ramps])
+    yield two('ramps-64', says, SURE, None, *[form2(j, JOB_HEAD, more=[0, 1] + [0] * 32) for j in all_ramps])
+    yield two('ramps-waiting', says, SURE, None, *[first(j, catchup=1) for j in all_ramps])
+    judged = beside(CASE_H, tolerances=[0.0] * 5)
+    yield two('ramp-judged', 'ended 0, accepted', SURE, None, first(judged))
+    yield two('ramp-21', 'ended 21, refused 11; ended 21, refused 11; ended 0, accepted', DOUBT, None, first(judged, 0), waiting(judged), first(judged))
+    yield two('no-pattern', 'ended 0; ended 0, accepted', SURE, None, first(good), first(divider(tolerances=[0.0] * 4)))
+    for n in range(8 * PATTERN_FIRST_2, 8 * KNOWN_2):
+        yield File(f'cut-in-word-31-{n}', 'jobs', jobs(first(good), first(good), form=2)[:32 + len(first(good)) + n], 'ended 0', FAULT, in_head(1))
+    for place in KNOWN_2, KNOWN_2 + 1, 63:
+        yield two(f'unknown-word-{place}', '', FAULT, unknown_head(0), put(form2(good, JOB_HEAD, more=[0, 1] + [0] * 32), place, 2**63))
+    # a number of words that is one too small: word 31 is taken for the sheet's beginning, and what is left at the end for a tolerance; and one too large
+    yield two('head-one-less', 'refused 7 at 0', DOUBT, None, put(first(good, 2), NUMBER_2, 31))
+    yield two('head-one-more', '', FAULT, unknown_head(0), put(first(good), NUMBER_2, 33))
 
 
 def faults_of_jobs():
@@ -308,6 +360,12 @@ def judged_calls(one, good):
     # a level that is NaN is hidden by the last unknown's 0.0: settled, zeros; the judge refuses its system
     yield one('spread-nan-level', '2 of 0', SURE, judged_spreads(ramps(), []))
     yield one('spread-nan-level-judged', '2 of 11', DOUBT, judged_spreads(ramps(), [1e300] * 3))
+    for switch in 1, 2**63:
+        yield one(f'spread-first-level-{switch}', '2 of 0', SURE, judged_spreads(ramps(), [0.0] * 3, 0, switch))
+    yield one('spread-first-level-not-judged', '2 of 0', SURE, judged_spreads(ramps(), [], 1, 1))
+    yield one('spread-first-level-off', '2 of 11', DOUBT, judged_spreads(ramps(), [0.0] * 3, 0, 0))
+    yield one('spread-first-level-long-head', '2 of 0', SURE, judged_spreads(ramps(), [0.0] * 3, 0, 1, *[0] * 32))
+    yield one('spread-patterns', f'{len(PATTERNS)} of 0', SURE, judged_spreads(spreads(*[b''.join(driven(shape)) for shape in PATTERNS], sources=1, points=LEVEL_BYTES), [0.0] * 3, 0, 1))
     yield one('spread-judge-more', '2 of 0', SURE, sources([0.0, 5.0, -1.0]))
     yield one('spread-judge-most', '2 of 0', SURE, sources([0.0] + [5.0] * 63))
     yield one('spread-behind', '1 of 0; 2 of 27', DOUBT, diodes(held, low, held))
@@ -330,7 +388,7 @@ def faults_of_spreads():
     yield bad('spread-form-3', NO_SPREADS, b'SAVSPRD3' + good[8:])
     yield bad('jobs-as-spreads', NO_SPREADS, jobs(job(ONE_VOLT)))
     yield bad('spread-answers', NO_SPREADS, b'SAVANSW1' + jobs(job(ONE_VOLT))[8:])
-    for place in (26, 27, 28, 29, KNOWN_2, 63):
+    for place in (26, 27, 28, 29, KNOWN_2, KNOWN_2 + 1, 63):
         for word in (1, 2**64 - 1):
             yield bad(f'spread-unknown-word-{place}-{word}', 'has ' + UNKNOWN_HEAD, put(spreads2(good, more=[0] * 39), place, word))
     judged = judged_spreads(good, [0.0, 0.0])
@@ -359,8 +417,8 @@ def cuts_of_jobs(form):
     """Each cut of a small file of jobs, with its fault and how many of its jobs are whole."""
     small = [job(ONE_VOLT, points=POINT), divider(tolerances=[0.0] * 4)]
     if form == 2:
-        small = [form2(j, JOB_HEAD) for j in small]
-    head, content = 8 * (JOB_HEAD + form - 1), jobs(*small, form=form)
+        small = [first(j) for j in small]
+    head, content = 8 * (KNOWN_2 if form == 2 else JOB_HEAD), jobs(*small, form=form)
     for n in range(len(content)):
         fault, whole = (NO_BYTE if n == 0 else NO_JOBS if n < 8 else IN_FIRST), 0
         start = 32
@@ -377,7 +435,7 @@ def cuts_of_spreads(form):
     head, points = 8 * SPREADS_HEAD, len(content)
     if form == 2:
         head, points = 8 * KNOWN_2, 8 * KNOWN_2 + points - head
-        content = judged_spreads(content, [0.0, 0.0])
+        content = judged_spreads(content, [0.0, 0.0], 0, 1)
     for n in range(len(content)):
         fault = NO_BYTE if n == 0 else NO_SPREADS if n < 8 else IN_NUMBERS if n < head else IN_SHEETS if n < points else IN_TOLERANCES
         yield content[:n], fault, ''

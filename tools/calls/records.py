@@ -13,14 +13,14 @@ KINDS = {kind: fields.split() for kind, fields in {
     'format': 'version',
     'file': 'file holds name',
     'fault': 'file',
-    'job': 'file job analysis nodes sources catchup',
+    'job': 'file job analysis nodes sources catchup pattern_first',
     'refused': 'file job number meaning place',
     'ended': 'file job verdict meaning dc_verdict passes rows end end_bits behind',
     'behind': 'file job place across across_bits limited limited_bits',
     'unknown': 'file job of index value value_bits',
     'row': 'file job row time time_bits values values_bits',
     'judged': 'file job answer row number',
-    'spreads': 'file jobs nodes sources of index tolerances catchup',
+    'spreads': 'file jobs nodes sources of index tolerances catchup pattern_first',
     'call_refused': 'file number meaning',
     'count': 'file number meaning jobs',
     'total': 'file runs jobs',
@@ -37,6 +37,9 @@ KINDS = {kind: fields.split() for kind, fields in {
     'run': 'file job number passes cause place value value_bits',
     'status': 'status',
 }.items()}
+
+# the options that are on or off; a sheet of spreads says of the first one that it is off, too
+SWITCHES = ['catchup', 'pattern_first']
 
 # fields that are no whole number: words, of which some are these alone; the name of a file; floats; a list of floats
 WORDS = {'holds': ['jobs', 'spreads'], 'analysis': ['dc', 'transient'], 'of': ['node', 'source'], 'answer': ['accepted', 'rejected', 'refused'], 'meaning': None}
@@ -297,7 +300,8 @@ def sheet_of(part):
         kind = r['kind']
         if kind == 'job':
             transient = r['analysis'] == 'transient'
-            lines.append(f'Job {r["job"]}: {"transient analysis" if transient else "DC operating point"}, {r["nodes"]} nodes with ground, {r["sources"]} sources{", catchup on" * (r["catchup"] != "0")}')
+            on = ''.join(f', {switch} on' for switch in SWITCHES if r[switch] != '0')
+            lines.append(f'Job {r["job"]}: {"transient analysis" if transient else "DC operating point"}, {r["nodes"]} nodes with ground, {r["sources"]} sources{on}')
         elif kind == 'refused':
             lines.append(f'{meant(r["number"], r["meaning"])}, record {r["place"]}')
         elif kind == 'ended':
@@ -313,7 +317,8 @@ def sheet_of(part):
             lines.append({'accepted': 'the judge accepts every row', 'rejected': f'the judge rejects row {r["row"]}', 'refused': f'the judge refuses by {r["number"]}'}[r['answer']])
         elif kind == 'spreads':
             lines.append(f'Spreads: {r["jobs"]} jobs in one call, DC operating point, {r["nodes"]} nodes with ground, {r["sources"]} sources; the chosen unknown is {r["of"]} {r["index"]}; '
-                         + (f'judged with {r["tolerances"]} tolerances' if r['tolerances'] != '0' else 'not judged') + f'; catchup {"on" if r["catchup"] != "0" else "off"}')
+                         + (f'judged with {r["tolerances"]} tolerances' if r['tolerances'] != '0' else 'not judged') + f'; catchup {"on" if r["catchup"] != "0" else "off"}'
+                         + ''.join(f'; {switch} on' for switch in SWITCHES[1:] if r[switch] != '0'))
         elif kind == 'call_refused':
             lines.append(f'the whole call is refused by {r["number"]} ({r["meaning"]}): no job ran')
     if any(r['kind'] == 'total' for r in part):

@@ -1,11 +1,13 @@
 #!/usr/bin/env python3
 """Stored files in form 2 (docs/FORMATS.md), from those in form 1: the same jobs, with heads that say how many words they have.
 
-    form2.py            writes crates/engine_replay/data/answers2.bin and, in crates/savrunte_tool/data, front_end2.jobs, spreads2.jobs, waiting2.jobs, judged2.jobs and caught_up2.jobs
+    form2.py            writes crates/engine_replay/data/answers2.bin and, in crates/savrunte_tool/data, front_end1.jobs (which is of form 1), front_end2.jobs, spreads2.jobs, waiting2.jobs, judged2.jobs,
+                        caught_up2.jobs, ramps2.jobs and ramp_spreads2.jobs
     form2.py --check    says whether they are what it would write
 
 The list of answers takes the directed jobs at the front of bench/answers.bin, and of the random ones behind them the first small one of every outcome. Some heads get words more than
-any version knows, all 0, and some lose the zeros at their end: neither changes a job. The last three have what form 1 cannot ask for: the option catchup, tolerances of spreads, and both, on a diode that is held back.
+any version knows, all 0, and some lose the zeros at their end: neither changes a job. The last five have what form 1 cannot ask for: the option catchup, tolerances of spreads, and both, on a diode that is held back;
+the option pattern_first, of jobs and of spreads, on patterns that start away from zero.
 """
 import struct
 import sys
@@ -21,6 +23,7 @@ import files as calls  # noqa: E402
 DIRECTED = 97  # jobs at the front of bench/answers.bin that are no random ones
 SMALL = 700  # bytes of a random job and its answer
 SPREADS = 8  # jobs of the file of spreads
+PLAIN = 4  # jobs at the front of the front end's file that ask for nothing that form 1 has not
 
 JOB, ANSWER, SPREAD = 29, 13, 24  # words of the heads in form 1
 MOST = 64  # words of a head
@@ -96,6 +99,17 @@ def jobs(b):
     return b"SAVJOBS2" + words(len(all), max(map(len, all)), 0) + b"".join(all)
 
 
+def front_end(b):
+    """The plain jobs of the front end's file, which is of form 2 with whole heads, in form 1."""
+    all = []
+    for (job,) in list(items(b, 1))[:PLAIN]:
+        size = word(job, 1)
+        head, rest = struct.unpack_from(f"<{size}Q", job), job[8 * size :]
+        assert not any(head[JOB + 1 :])
+        all.append(words(8 * JOB + len(rest), *head[2 : JOB + 1]) + rest)
+    return b"SAVJOBS1" + words(len(all), max(map(len, all)), 0) + b"".join(all)
+
+
 def fewer(b):
     """The first spreads of a file of form 1, as a file of form 1."""
     each = word(b, 21) // word(b, 1)
@@ -128,15 +142,37 @@ def judged(catchup):
     return calls.judged_spreads(calls.spreads(*sheets, nodes=3, sources=1, unknown=2, itl=(100, 0, 10)), TOLERANCES, catchup=catchup)
 
 
+def ramps():
+    """Document 01's case h, a pattern from 3 to 4: with the option pattern_first, without it, with a head that ends before its word, and with another number than 1; and beside a second source, where the
+    level that is no number is not hidden. Through a transient with and without it, and repeating with both options. Then a pattern whose first point stands after time 0, and one of a single point."""
+    moving = dict(transient=True, rows=9, tstep=0.25, tstop=1.25)
+    h, repeating, late, one = calls.CASE_H, (2, 2, 0.0, 1.0), (4, 2, 0.0, -1.0), (3, 1, 0.0, 1.0)
+    all = [calls.first(calls.ramp(h)), calls.first(calls.ramp(h), 0), calls.waiting(calls.ramp(h), 0), calls.first(calls.ramp(h), 2**63)]
+    all += [calls.first(calls.beside(h, tolerances=[0.0] * 5), on) for on in (1, 0)]
+    all += [calls.first(calls.ramp(h, **moving), on) for on in (1, 0)] + [calls.first(calls.ramp(repeating, **moving), catchup=1)]
+    all += [calls.first(calls.ramp(shape, **moving)) for shape in (late, one)]
+    return calls.jobs(*all, form=2)
+
+
+def ramp_spreads():
+    """Spreads of such patterns at DC with the option, judged, and one whose points are not there."""
+    sheets = [b"".join(calls.driven(shape)) for shape in calls.PATTERNS + [(5, 2, 0.0, -1.0)]]
+    return calls.judged_spreads(calls.spreads(*sheets, sources=1, points=calls.LEVEL_BYTES), [0.0] * 3, 0, 1)
+
+
 def main():
     tool = DATA / "savrunte_tool" / "data"
+    plain = front_end((tool / "front_end.jobs").read_bytes())
     files = {
         DATA / "engine_replay" / "data" / "answers2.bin": answers((TOP / "bench" / "answers.bin").read_bytes()),
-        tool / "front_end2.jobs": jobs((tool / "front_end.jobs").read_bytes()),
+        tool / "front_end1.jobs": plain,
+        tool / "front_end2.jobs": jobs(plain),
         tool / "spreads2.jobs": spreads((tool / "spreads.jobs").read_bytes()),
         tool / "waiting2.jobs": waiting(),
         tool / "judged2.jobs": judged(0),
         tool / "caught_up2.jobs": judged(1),
+        tool / "ramps2.jobs": ramps(),
+        tool / "ramp_spreads2.jobs": ramp_spreads(),
     }
     if sys.argv[1:] == ["--check"]:
         same = all(p.exists() and p.read_bytes() == b for p, b in files.items())

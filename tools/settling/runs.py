@@ -10,9 +10,10 @@ import tempfile
 from collections import namedtuple
 from pathlib import Path
 
-from catchup import SPREADS, switched
-
 TOP = Path(__file__).resolve().parents[2]
+sys.path.insert(0, str(TOP / 'tools'))
+from switch import SPREADS, switched  # noqa: E402
+
 DOCUMENT = TOP / 'docs' / 'SETTLING.md'
 
 # RELTOL, VNTOL and ABSTOL, the loosest first
@@ -40,7 +41,7 @@ class Spreads:
         data = bytearray(self.data)
         struct.pack_into('<3d', data, 8 * TOLERANCES, *map(float, tolerances))
         struct.pack_into('<Q', data, 8 * ITL1, PASSES)
-        return switched(bytes(data), on)
+        return switched(bytes(data), catchup=on)
 
 
 def program(*form, content):

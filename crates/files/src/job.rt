@@ -17,7 +17,9 @@ use jobs::within;
 use judge::Judged;
 use num::f64_at;
 use numbers::refusal::ROOM;
+use options::Options;
 use pen::Pen;
+use say::Switches;
 
 // Runs the file's jobs, or says why it cannot.
 pub fn run_file(g: Going, fd: i32, name: &[u8]) -> Going {
@@ -116,10 +118,18 @@ fn run_whole(g: Going, h: Head, sheet: &[u8], points: &[u8], tolerances: &[u8]) 
     let run = jobs::run_job(jobs::zero_rooms(), &mut rows, h, sheet, points);
     clock::job_over(g.clock);
     let o = h.options;
-    let headed = say::heading(g.pen, h.transient, h.nodes, h.sources, o.catchup);
+    let headed = say::heading(g.pen, h.transient, h.nodes, h.sources, switches(o));
     let outcome = run.outcome;
     let after = going::with(g, headed, shell::job_seen(outcome));
     report(after, run, &rows, h, sheet, tolerances)
+}
+
+// The options that are on or off.
+pub fn switches(o: Options) -> Switches {
+    Switches {
+        catchup: o.catchup,
+        pattern_first: o.pattern_first,
+    }
 }
 
 // Says how a job ended and what stands in its buffers, and judges the vector.

@@ -4,6 +4,7 @@ ghost use lib.ListN.{length};
 use super::going;
 use super::going::Going;
 use super::job::floats;
+use super::job::switches;
 use super::volts::Volts;
 use super::volts::volts_of;
 use jobs::Spreads;
@@ -214,7 +215,7 @@ fn asked(p: Pen, h: Spreads) -> Pen {
         h.sources,
         h.unknown,
         h.tolerances,
-        o.catchup,
+        switches(o),
     )
 }
 

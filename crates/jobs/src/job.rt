@@ -9,7 +9,7 @@ use std::num::wrapping_add_u64;
 // The words of a job's head in form 1, and those that are known here.
 const FORM_1: u8 = 30;
 
-const KNOWN: u8 = 31;
+const KNOWN: u8 = 32;
 
 pub struct Head {
     pub bytes: u64, // of the job

@@ -9,7 +9,7 @@ use options::Options;
 // The words of the head in form 1, and those that are known here.
 const FORM_1: u8 = 25;
 
-const KNOWN: u8 = 31;
+const KNOWN: u8 = 32;
 
 pub struct Spreads {
     pub jobs: u64,

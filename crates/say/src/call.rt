@@ -2,6 +2,7 @@
 use super::cause;
 use super::job;
 use super::spread;
+use super::switch::Switches;
 use engine::Ending;
 use libc::STDERR_FILENO;
 use pen::Form;
@@ -43,14 +44,21 @@ fn job_names(p: Pen) -> Pen {
         end: 0.0,
         behind: 0,
     };
-    let q = job::refused_record(job::job_record(p, false, 0, 0, 0), 0, 0);
+    let q = job::refused_record(job::job_record(p, false, 0, 0, off()), 0, 0);
     let r = job::behind_record(job::ended_record(q, e, false), 0, 0.0, 0.0);
     let s = job::unknown_record(r, b"", 0, 0.0);
     job::judged_record(job::row_record(s, &[], 0, 0, 0), b"", 0, 0)
 }
 
+fn off() -> Switches {
+    Switches {
+        catchup: 0,
+        pattern_first: 0,
+    }
+}
+
 fn spread_names(p: Pen) -> Pen {
-    let q = spread::call_refused_record(spread::spreads_record(p, 0, 0, 0, 0, 0, 0), 0);
+    let q = spread::call_refused_record(spread::spreads_record(p, 0, 0, 0, 0, 0, off()), 0);
     let r = spread::total_record(spread::count_record(q, 0, 0), 0, 0);
     let s = cause::cause_record(cause::sound_record(r, 0, 0), 0, 0);
     let t = cause::not_sound_record(s, 0, 0, 0.0, 0.0, 0);

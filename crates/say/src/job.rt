@@ -1,6 +1,8 @@
 // What is written about a job: how it ended, its unknowns, its rows, and what the judge says; on a sheet for a person, or as records for a machine.
 ghost use mathlib.Core.Path.{_≡_};
 ghost use mathlib.Core.Bool.{cond};
+use super::switch;
+use super::switch::Switches;
 use engine::Ending;
 use judge::Judged;
 use pen::Pen;
@@ -24,26 +26,18 @@ use pen::which;
 use pen::whole;
 
 // The job that follows.
-pub fn heading(p: Pen, transient: bool, nodes: u64, sources: u64, catchup: u64) -> Pen {
+pub fn heading(p: Pen, transient: bool, nodes: u64, sources: u64, s: Switches) -> Pen {
     if is_person(p) {
-        return heading_line(p, transient, nodes, sources, catchup);
+        return heading_line(p, transient, nodes, sources, s);
     }
-    job_record(p, transient, nodes, sources, catchup)
+    job_record(p, transient, nodes, sources, s)
 }
 
-fn heading_line(p: Pen, transient: bool, nodes: u64, sources: u64, catchup: u64) -> Pen {
-    let q = print(text(p, b"Job "), p.job);
-    let r = analysis_line(q, transient);
-    let s = text(print(r, nodes), b" nodes with ground, ");
-    text(waits(text(print(s, sources), b" sources"), catchup), b"\n")
-}
-
-// That the job asks its passes to wait for diodes that are behind.
-fn waits(p: Pen, catchup: u64) -> Pen {
-    if catchup == 0 {
-        return p;
-    }
-    text(p, b", catchup on")
+fn heading_line(p: Pen, transient: bool, nodes: u64, sources: u64, s: Switches) -> Pen {
+    let q = analysis_line(print(text(p, b"Job "), p.job), transient);
+    let r = text(print(q, nodes), b" nodes with ground, ");
+    let t = switch::of_a_job(text(print(r, sources), b" sources"), s);
+    text(t, b"\n")
 }
 
 fn analysis_line(p: Pen, transient: bool) -> Pen {
@@ -53,11 +47,10 @@ fn analysis_line(p: Pen, transient: bool) -> Pen {
     text(p, b": DC operating point, ")
 }
 
-pub fn job_record(p: Pen, transient: bool, nodes: u64, sources: u64, catchup: u64) -> Pen {
-    let q = of_job(begin(p, b"job"));
-    let r = analysis(q, transient);
-    let s = whole(whole(r, b"nodes", nodes), b"sources", sources);
-    end(whole(s, b"catchup", catchup))
+pub fn job_record(p: Pen, transient: bool, nodes: u64, sources: u64, s: Switches) -> Pen {
+    let q = analysis(of_job(begin(p, b"job")), transient);
+    let r = whole(whole(q, b"nodes", nodes), b"sources", sources);
+    end(switch::fields(r, s))
 }
 
 fn analysis(p: Pen, transient: bool) -> Pen {

@@ -4,6 +4,7 @@ mod call; // call.rt: a whole call, its files and its faults
 mod cause; // cause.rt: which spreads are sound, and the values over them
 mod job; // job.rt: a single job
 mod spread; // spread.rt: all spreads of a call, job by job
+mod switch; // switch.rt: the options that are on or off
 
 pub use call::call_begun;
 pub use call::call_ended;
@@ -29,3 +30,4 @@ pub use spread::call_refused;
 pub use spread::counts;
 pub use spread::runs;
 pub use spread::unsettled;
+pub use switch::Switches;

@@ -3,6 +3,8 @@ ghost use mathlib.Core.Path.{_≡_};
 ghost use Prim.Native.Nat.{min};
 ghost use Rattle.say.specs.Totals.{totalOf, shown, numberOf, numberCount};
 use super::cause;
+use super::switch;
+use super::switch::Switches;
 use numbers::cause::BEHIND;
 use numbers::cause::REJECTED;
 use numbers::limit::JOB_CAUSES;
@@ -40,13 +42,13 @@ pub fn asked(
     sources: u64,
     unknown: u64,
     tolerances: u64,
-    catchup: u64,
+    s: Switches,
 ) -> Pen {
     if is_person(p) {
         let q = asked_line(p, jobs, nodes, sources, unknown);
-        return text(waiting(judging(q, tolerances), catchup), b"\n");
+        return text(switch::of_a_call(judging(q, tolerances), s), b"\n");
     }
-    spreads_record(p, jobs, nodes, sources, unknown, tolerances, catchup)
+    spreads_record(p, jobs, nodes, sources, unknown, tolerances, s)
 }
 
 fn asked_line(p: Pen, jobs: u64, nodes: u64, sources: u64, unknown: u64) -> Pen {
@@ -66,13 +68,6 @@ fn judging(p: Pen, tolerances: u64) -> Pen {
     )
 }
 
-fn waiting(p: Pen, catchup: u64) -> Pen {
-    if catchup == 0 {
-        return text(p, b"; catchup off");
-    }
-    text(p, b"; catchup on")
-}
-
 // The unknown's name: a node's voltage, or a source's current.
 fn name(p: Pen, unknown: u64, nodes: u64) -> Pen {
     let u = which(unknown, nodes);
@@ -89,7 +84,7 @@ pub fn spreads_record(
     sources: u64,
     unknown: u64,
     tolerances: u64,
-    catchup: u64,
+    s: Switches,
 ) -> Pen {
     let q = whole(of_file(begin(p, b"spreads")), b"jobs", jobs);
     let r = unknown_field(
@@ -97,7 +92,7 @@ pub fn spreads_record(
         unknown,
         nodes,
     );
-    end(whole(whole(r, b"tolerances", tolerances), b"catchup", catchup))
+    end(switch::fields(whole(r, b"tolerances", tolerances), s))
 }
 
 fn unknown_field(p: Pen, unknown: u64, nodes: u64) -> Pen {

@@ -6,6 +6,7 @@ use engine::Ending;
 use judge::Judged;
 use num::float_of;
 use pen::Pen;
+use say::Switches;
 use tally::Report;
 
 fn main() {
@@ -26,7 +27,7 @@ fn all(p: Pen) {
 // A job that is refused, one of DC, and transients with rows and without.
 fn jobs(p: Pen) -> Pen {
     let q = say::refused(
-        say::heading(p, false, 9007199254740992, 9007199254740993, 0),
+        say::heading(p, false, 9007199254740992, 9007199254740993, switches(0, 0)),
         8,
         41,
     );
@@ -35,7 +36,7 @@ fn jobs(p: Pen) -> Pen {
 
 fn vector(p: Pen) -> Pen {
     let x = floats();
-    let q = say::heading(pen::at_job(p, 1), false, 2, 14, 1);
+    let q = say::heading(pen::at_job(p, 1), false, 2, 14, switches(1, 0));
     let r = say::behind(
         say::ended(q, ending(21, 21, 0.0), false),
         2,
@@ -48,7 +49,8 @@ fn vector(p: Pen) -> Pen {
 
 fn row_after_row(p: Pen) -> Pen {
     let x = floats();
-    let q = say::heading(pen::at_job(p, 2), true, 2, 1, 18446744073709551615);
+    let both = switches(18446744073709551615, 9223372036854775808);
+    let q = say::heading(pen::at_job(p, 2), true, 2, 1, both);
     let r = say::behind(
         say::ended(q, ending(0, 20, 2.5e-6), true),
         2,
@@ -62,9 +64,17 @@ fn row_after_row(p: Pen) -> Pen {
 // Rows of a time alone, and one that is not there.
 fn ended_alone(p: Pen) -> Pen {
     let x = floats();
-    let q = say::heading(pen::at_job(p, 3), true, 2, 1, 0);
+    let q = say::heading(pen::at_job(p, 3), true, 2, 1, switches(0, 1));
     let r = say::rows(say::ended(q, ending(26, 0, 1.0), true), &x, 17, 0);
     say::judged(r, Judged::Accepted)
+}
+
+// The options that are on or off, by their words.
+fn switches(catchup: u64, pattern_first: u64) -> Switches {
+    Switches {
+        catchup,
+        pattern_first,
+    }
 }
 
 fn ending(verdict: u8, dc: u8, end: f64) -> Ending {
@@ -80,21 +90,23 @@ fn ending(verdict: u8, dc: u8, end: f64) -> Ending {
 
 // Calls that are refused; one of which no run settled, one of which some did and none is sound, and one with sound runs.
 fn spreads(p: Pen) -> Pen {
-    let q = say::call_refused(say::asked(p, 0, 12, 4, 11, 0, 0), 2);
-    let r = say::call_refused(say::asked(q, 257, 12, 4, 15, 16, 1), 13);
+    let q = say::call_refused(say::asked(p, 0, 12, 4, 11, 0, switches(0, 0)), 2);
+    let s = switches(1, 18446744073709551615);
+    let r = say::call_refused(say::asked(q, 257, 12, 4, 15, 16, s), 13);
     some_sound(none_sound(none_settled(r)))
 }
 
 fn none_settled(p: Pen) -> Pen {
     let n = causes();
-    let q = say::asked(p, 8, 12, 4, 11, 0, 0);
+    let q = say::asked(p, 8, 12, 4, 11, 0, switches(9223372036854775808, 0));
     let r = say::range(say::not_sound_line(q, 0, 0), report(0), 0.0, report(0), 0.0);
     say::unsettled(r, &n, &n, &n, 8, 0)
 }
 
 // Each cause of a settled run, told of one that has it.
 fn none_sound(p: Pen) -> Pen {
-    let q = say::not_sound_line(say::asked(p, 3, 12, 4, 11, 16, 0), 3, 0);
+    let asked = say::asked(p, 3, 12, 4, 11, 16, switches(0, 1));
+    let q = say::not_sound_line(asked, 3, 0);
     let r = say::not_sound(q, 0, 27, 2, 4.99998, 0.625);
     let s = say::not_sound(say::not_sound(r, 1, 28, 3, 1.0, 1.0), 2, 11, 0, 1.0, 1.0);
     say::range(s, report(0), 0.0, report(3), 0.5)
