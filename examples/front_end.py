@@ -8,9 +8,10 @@ Nodes: 0 ground, 1 the 5 V supply, 2 the light on the detector, 3 the bias strin
 Sources: 0 the supply, 1 the light, 2 the reference's buffer, 3 the amplifier's buffer.
 
 Jobs: 0 the DC operating point and 1 the transient, both judged; 2 is DC with too few passes, 3 has a record with a node that is not there.
-4 is a transient, judged, while the supply ramps from 4 V to 5 V and the bias with it: with the option pattern_first the DC point is that of 4 V,
-the rows follow the ramp and the last ones have 5 V to the bit. 5 is the same job without the option: at time 0 the ramp's level is no number, DC ends
-with 21 (convergence error) and the transient with 22 in its first pass.
+4 is a transient, judged, while the supply ramps from 4 V to 5 V and the bias with it: with the option pattern_first the DC point is that of 4 V, the
+supply's rows follow the ramp, each with the level at the time for which its step was solved (docs/DIFFERENCES.md, "A row's time is not the time solved"),
+while the capacitors fill from empty, and the last ones have 5 V to the bit. 5 is the same job without the option: at time 0 the ramp's level is no number,
+DC ends with 21 (convergence error) and the transient with 22 in its first pass.
 """
 import os
 import struct
@@ -90,13 +91,14 @@ def ramped(nominal):
 
 
 # RELTOL, VNTOL, ABSTOL, TSTART, TSTOP, TSTEP, FS, FT, RMIN, RMAX, GMIN, BOLTZMANN, CHARGE. RELTOL is small because with 1e-3 the bias string settles
-# falsely at 5 V (docs/DIFFERENCES.md, "False settling"); rows begin when the empty capacitors have filled.
-def options(tstart, tstop, tstep): return struct.pack('<13d', 1e-9, 1e-9, 1e-12, tstart, tstop, tstep, 0.5, 0.25, 1e-3, 2.0, 1e-12, 1.3806488e-23, 1.603e-19)
+# falsely at 5 V (docs/DIFFERENCES.md, "False settling").
+def options_of(tstart, tstop, tstep): return struct.pack('<13d', 1e-9, 1e-9, 1e-12, tstart, tstop, tstep, 0.5, 0.25, 1e-3, 2.0, 1e-12, 1.3806488e-23, 1.603e-19)
 
 
-OPTIONS = options(9e-6, 1.8e-5, 1e-7)
+# rows begin when the empty capacitors have filled
+OPTIONS = options_of(9e-6, 1.8e-5, 1e-7)
 # through the ramp, which is over before the flash: every row, also while the capacitors, which begin empty, fill
-RAMP_OPTIONS = options(0.0, 9e-6, 5e-7)
+RAMP_OPTIONS = options_of(0.0, 9e-6, 5e-7)
 POINT_BYTES, RAMP_BYTES = (b''.join(struct.pack('<dd', *p) for p in points) for points in (POINTS, RAMP))
 # row 0 is empty; amperes at the nodes, volts at the sources
 TOLERANCES = [0.0] + [1e-12] * (NODES - 1) + [1e-9] * SOURCES

@@ -36,7 +36,7 @@ def switched(data, **options):
         size = struct.unpack_from('<Q', data, at)[0]
         jobs.append(with_head(data[at:at + size], form, JOB, changed))
         at += size
-    return b'SAVJOBS2' + struct.pack('<3Q', len(jobs), max(map(len, jobs)), 0) + b''.join(jobs)
+    return b'SAVJOBS2' + struct.pack('<3Q', len(jobs), max(map(len, jobs), default=0), 0) + b''.join(jobs)
 
 
 if __name__ == '__main__':

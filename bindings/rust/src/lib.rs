@@ -55,8 +55,8 @@
 //! assert!((volt - 0.7447).abs() < 1e-4);
 //! ```
 //!
-//! A pattern that starts away from zero, as a bias ramp does, has a NaN for its level at time 0, as in the Rust engine. With the option
-//! `pattern_first` it has its first level there, and without repeat its last level from its end on:
+//! A pattern whose first point is at time 0 with a level other than 0, as a bias ramp's, has a NaN for its level there, as in the Rust
+//! engine. With the option `pattern_first` it has its first level there, and without repeat its last level from its end on:
 //!
 //! ```
 //! use savrunte::{pattern, pattern_first, points};

@@ -28,7 +28,7 @@ pub struct Options {
     pub budget: u64,
     /// 0 is off. Anything else is on: then a pass that would settle goes on as if it had not, while a diode is behind.
     pub catchup: u64,
-    /// 0 is off. Anything else is on: then a pattern has its first point's level at that point's own time, and its last level from the end on.
+    /// 0 is off. Anything else is on: then a pattern has its first level up to its first point's own time and, without repeat, its last level from its end on.
     pub pattern_first: u64,
 }
 

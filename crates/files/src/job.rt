@@ -124,8 +124,10 @@ fn run_whole(g: Going, h: Head, sheet: &[u8], points: &[u8], tolerances: &[u8]) 
     report(after, run, &rows, h, sheet, tolerances)
 }
 
-// The options that are on or off.
-pub fn switches(o: Options) -> Switches {
+// The options that are on or off, as they stand in the file.
+pub fn switches(o: Options) -> Switches
+    ensures { λ r. ⌜ (r .catchup ≡ o .catchup) × (r .«pattern_first» ≡ o .«pattern_first») ⌝ }
+{
     Switches {
         catchup: o.catchup,
         pattern_first: o.pattern_first,

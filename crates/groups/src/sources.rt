@@ -19,25 +19,25 @@ ghost use Rattle.groups.specs.Sources.{drivenOf, sourceTime, levelled, d
 ghost use Rattle.groups.specs.Records.{onRecord};
 
 // Stamps the sources at the pass's time, in the order of the records, and answers 0 or the verdict that ended it.
-pub fn stamp_independent(p: Pass, sheet: &[u8], points: &[u8], m: &mut [f64]) -> u8
-    ensures { λ r. ⌜ drivenOf r (now (m .exit)) ≡ independentOf p (now (sheet .entry)) (now (points .entry)) (now (m .entry)) ⌝ }
+pub fn stamp_independent(w: Pass, sheet: &[u8], points: &[u8], m: &mut [f64]) -> u8
+    ensures { λ r. ⌜ drivenOf r (now (m .exit)) ≡ independentOf w (now (sheet .entry)) (now (points .entry)) (now (m .entry)) ⌝ }
 {
     let count = sheet::records(sheet);
     let mut code: u8 = 0;
     for i in 0..count {
-        code = source_at(code, p, sheet, points, i, m);
+        code = source_at(code, w, sheet, points, i, m);
     }
     code
 }
 
 // Record i, unless there is a verdict already.
-fn source_at(code: u8, p: Pass, sheet: &[u8], points: &[u8], i: usize, m: &mut [f64]) -> u8
-    ensures { λ r. ⌜ drivenOf r (now (m .exit)) ≡ drivenAt p (now (sheet .entry)) (now (points .entry)) i (drivenOf code (now (m .entry))) ⌝ }
+fn source_at(code: u8, w: Pass, sheet: &[u8], points: &[u8], i: usize, m: &mut [f64]) -> u8
+    ensures { λ r. ⌜ drivenOf r (now (m .exit)) ≡ drivenAt w (now (sheet .entry)) (now (points .entry)) i (drivenOf code (now (m .entry))) ⌝ }
 {
     if code != 0 {
         return code;
     }
-    source_one(record_in(sheet, i, kind::ISIN, kind::VPWL), p, points, m)
+    source_one(record_in(sheet, i, kind::ISIN, kind::VPWL), w, points, m)
 }
 
 // What a record writes as a source.
@@ -79,10 +79,10 @@ fn source_one(d: Decoded, w: Pass, points: &[u8], m: &mut [f64]) -> u8
 }
 
 // The time at which sources have their level.
-fn source_time(p: Pass) -> f64
-    ensures { λ r. ⌜ r ≡ sourceTime p ⌝ }
+fn source_time(w: Pass) -> f64
+    ensures { λ r. ⌜ r ≡ sourceTime w ⌝ }
 {
-    if p.transient { p.time + p.step } else { 0.0 }
+    if w.transient { w.time + w.step } else { 0.0 }
 }
 
 // The level of a pattern, which is never refused.

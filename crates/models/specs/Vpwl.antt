@@ -1,4 +1,4 @@
--- The piecewise-linear source: "Pattern: `evaluate` exactly, float `%` included"; and the rule in its place where the option `pattern_first` is on. Clients cite pointsFrom and patternOf.
+-- The piecewise-linear source: "Pattern: `evaluate` exactly, float `%` included"; and the rule in its place where the option `pattern_first` is on. Clients cite pointAt, pointsFrom, patternAt, patternFirst and patternOf.
 use Prim.Native.Nat.{ℕ, zero, suc, _+_, _*_}
 use mathlib.Core.Bool.{Bool, true, false, not, _&&_, cond}
 use mathlib.Core.List.{List, [], _∷_}

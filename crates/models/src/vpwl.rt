@@ -132,7 +132,7 @@ pub fn level(
     evaluate(points, first, count, t_delay, repeat, t)
 }
 
-// The level at time t with the option on: the first level up to the first point's own time, the last one from the end on, and `evaluate` in between.
+// The level at time t with the option on: before the delay 0, without repeat the last level from the end on, the first level up to the first point's own time, else as `evaluate`.
 pub fn evaluate_first(
     points: &[u8],
     first: usize,

@@ -40,10 +40,10 @@ pub fn size_of(kind: u8) -> usize
 // Whether the model answers the entry e as it is stored.
 pub fn is_right(e: &[u8], kind: u8) -> bool {
     if kind == PATTERNS {
-        return pattern_right(e);
+        return pattern_right(e, false);
     }
     if kind == PATTERNS_FIRST {
-        return pattern_first_right(e);
+        return pattern_right(e, true);
     }
     if kind == CAPACITORS {
         return capacitor_right(e);
@@ -54,32 +54,15 @@ pub fn is_right(e: &[u8], kind: u8) -> bool {
     sine_right(e)
 }
 
-// first, count, t_delay, repeat, t, the level; then the six points that are lent.
-fn pattern_right(e: &[u8]) -> bool {
+// first, count, t_delay, repeat, t, the level by the option; then the six points that are lent.
+fn pattern_right(e: &[u8], pattern_first: bool) -> bool {
     if e.len() < 48 {
         return false;
     }
     let first = u64_at(e, 0) as usize;
     let count = u64_at(e, 8) as usize;
-    let level = models::vpwl::evaluate(
-        &e[48..],
-        first,
-        count,
-        f64_at(e, 16),
-        f64_at(e, 24),
-        f64_at(e, 32),
-    );
-    same(level, f64_at(e, 40))
-}
-
-// The same entry, answered as with the option pattern_first on.
-fn pattern_first_right(e: &[u8]) -> bool {
-    if e.len() < 48 {
-        return false;
-    }
-    let first = u64_at(e, 0) as usize;
-    let count = u64_at(e, 8) as usize;
-    let level = models::vpwl::evaluate_first(
+    let level = models::vpwl::level(
+        pattern_first,
         &e[48..],
         first,
         count,

@@ -20,6 +20,6 @@ pub struct Options {
     pub budget: u64,
     // 0 off, anything else on: a pass that would say "yes" says "no" while a diode is behind
     pub catchup: u64,
-    // 0 off, anything else on: a pattern has its first point's level at that point's own time, and its last level from the last point's time on
+    // 0 off, anything else on: a pattern has its first level up to its first point's own time and, without repeat, its last level from its end on
     pub pattern_first: u64,
 }

@@ -107,6 +107,11 @@ case-falling : map (patternFirst (point nought three ∷ point (neg one) four �
 unfolding patternFirst patternAt levelAt levelOn lastOf between orZero ofBits add sub mul div rem neg lt le isNan
 case-falling = refl
 
+-- not promised: a finite level; halfway from the lowest float to the highest the slope overflows
+case-steep : patternFirst (point nought (neg highest) ∷ point one highest ∷ []) nought (neg one) half ≡ infinity
+unfolding patternFirst patternAt levelAt levelOn lastOf between orZero ofBits add sub mul div rem neg lt le isNan
+case-steep = refl
+
 -- not promised: levels that are not finite; halfway from 3 to infinity is infinity, and from infinity to 3 a NaN
 case-infinite : map (λ (ps : List Point). patternFirst ps nought (neg one) half) ((point nought three ∷ point one infinity ∷ []) ∷ (point nought infinity ∷ point one three ∷ []) ∷ []) ≡ infinity ∷ nan ∷ []
 unfolding patternFirst patternAt levelAt levelOn lastOf between orZero ofBits add sub mul div rem neg lt le isNan

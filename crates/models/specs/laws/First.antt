@@ -24,14 +24,14 @@ use Rattle.models.specs.laws.Rising.{FinitePoint, Rising, TimesFit, Neig
 -- ---- the option
 
 -- off, a pattern is as before
-pub off : (ps : List Point) (delay repeat t : Float) → patternOf false ps delay repeat t ≡ patternAt ps delay repeat t
+pub patterns-off : (ps : List Point) (delay repeat t : Float) → patternOf false ps delay repeat t ≡ patternAt ps delay repeat t
 unfolding patternOf
-off ps delay repeat t = refl
+patterns-off ps delay repeat t = refl
 
 -- on, it is by the rule of this file
-pub on : (ps : List Point) (delay repeat t : Float) → patternOf true ps delay repeat t ≡ patternFirst ps delay repeat t
+pub patterns-on : (ps : List Point) (delay repeat t : Float) → patternOf true ps delay repeat t ≡ patternFirst ps delay repeat t
 unfolding patternOf
-on ps delay repeat t = refl
+patterns-on ps delay repeat t = refl
 
 -- ---- the rule's sentences, for any points, delay, repeat and time
 

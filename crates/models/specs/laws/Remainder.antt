@@ -1,4 +1,4 @@
--- The remainder `%` of floats that binary64 holds: it is exact, a number from 0.0 up to y is its own remainder by y, and every remainder of what is not below 0.0 is such a number.
+-- The remainder `%` of floats that binary64 holds: it is exact, a number from 0.0 up to y is its own remainder by y, and the remainder of any finite number not below 0.0 by a y above 0.0 is such a number.
 -- Clients cite rem-below, rem-nought, rem-zero, rem-within and rem-positive. Assumes nothing.
 use Prim.Native.Nat.{ℕ, zero, suc, _+_, _-_, _*_, _%_, _^_, _≤_, _<_}
 use mathlib.Core.Path.{_≡_, refl, sym, ap, _∙_, subst}

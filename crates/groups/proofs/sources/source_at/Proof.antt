@@ -16,7 +16,9 @@ returns-2 : tie.Need-returns-2
 unfolding drivenAt
 returns-2 c =
     let a = c .before .before .before .before .before .before .before .before .before .args in
-    rw (eq-eqb _ _ (c .before .before .before .before .before .if1 .left)) (rw (c .before .before .before .before .record-in .ensures) at (c .before .before .source-one .ensures) ∙ in-group 5 7 (a .sheet .now) (a .i) (driven (a .p) (a .points .now) (a .m .now)) (drivenOf 0 (a .m .now)) (quiet-driven (a .p) (a .points .now) (a .m .now)))
+    let f = driven (a .w) (a .points .now) (a .m .now) in
+    let g = in-group 5 7 (a .sheet .now) (a .i) f (drivenOf 0 (a .m .now)) (quiet-driven (a .w) (a .points .now) (a .m .now)) in
+    rw (eq-eqb _ _ (c .before .before .before .before .before .if1 .left)) (rw (c .before .before .before .before .record-in .ensures) at (c .before .before .source-one .ensures) ∙ g)
 
 pub source-at-spec : {M : Type 1} → statement M
 source-at-spec = tie.close (tie.spec returns (λ c κs. search needs) (λ c κs. search needs) (λ c. search needs) returns-2)

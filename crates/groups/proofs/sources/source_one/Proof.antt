@@ -13,15 +13,21 @@ returns c = rw (c .enum-told .given .1)
 
 returns-2 : tie.Need-returns-2
 unfolding driven
-returns-2 c = rw (c .before .before .before .before .before .before .before .before .before .before .d .given .1, c .before .before .before .before .before .before .before .e .given .1) (rw (c .before .before .before .before .evaluate .ensures, c .before .before .before .before .before .source-time .ensures) at (c .before .before .current .ensures))
+returns-2 c =
+    let b = c .before .before .before .before in
+    rw (b .before .before .before .before .before .before .d .given .1, b .before .before .before .e .given .1) (rw (b .evaluate .ensures, b .before .source-time .ensures) at (c .before .before .current .ensures))
 
 returns-3 : tie.Need-returns-3
 unfolding driven
-returns-3 c = rw (c .before .before .before .before .before .before .before .before .before .before .d .given .1, c .before .before .before .before .before .before .before .e2 .given .1) (rw (c .before .before .before .before .evaluate2 .ensures, c .before .before .before .before .before .source-time2 .ensures) at (c .before .before .voltage .ensures))
+returns-3 c =
+    let b = c .before .before .before .before in
+    rw (b .before .before .before .before .before .before .d .given .1, b .before .before .before .e2 .given .1) (rw (b .evaluate2 .ensures, b .before .source-time2 .ensures) at (c .before .before .voltage .ensures))
 
 returns-4 : tie.Need-returns-4
 unfolding driven
-returns-4 c = rw (c .before .before .before .before .before .before .before .before .before .d .given .1, c .before .before .before .before .before .before .e3 .given .1) (rw (c .before .before .before .before .pattern .ensures) at (c .before .before .voltage2 .ensures))
+returns-4 c =
+    let b = c .before .before .before .before in
+    rw (b .before .before .before .before .before .d .given .1, b .before .before .e3 .given .1) (rw (b .pattern .ensures) at (c .before .before .voltage2 .ensures))
 
 returns-5 : tie.Need-returns-5
 returns-5 c = rw (c .before .before .d .given .1, quiet-driven _ _ _ _ (other-kind 5 7 (0 ∷ 1 ∷ 2 ∷ 3 ∷ 7 ∷ 8 ∷ 9 ∷ []) _ (c .match2 .keys4) refl))

@@ -10,11 +10,11 @@ use Rattle.groups.proofs.sources.stamp_independent.Statement.{statement
 use Rattle.groups.proofs.sources.stamp_independent.Tie as tie
 
 abbrev Inv-loop : tie.InvT-loop
-Inv-loop p sheet points m₀ count code₀ i₀ m code i =
-    (i ≤ count) × (length m ≡ length m₀) × (_≡_ {A = Driven} (drivenOf code m) (turns i (drivenAt p sheet points) (drivenOf 0 m₀)))
+Inv-loop w sheet points m₀ count code₀ i₀ m code i =
+    (i ≤ count) × (length m ≡ length m₀) × (_≡_ {A = Driven} (drivenOf code m) (turns i (drivenAt w sheet points) (drivenOf 0 m₀)))
 
 abbrev μ-loop : tie.MeasureT-loop
-μ-loop p sheet points m₀ count code₀ i₀ m code i = count - i
+μ-loop w sheet points m₀ count code₀ i₀ m code i = count - i
 
 loop-holds : tie.Need-loop-holds Inv-loop μ-loop
 loop-holds c = (search needs, refl, refl)

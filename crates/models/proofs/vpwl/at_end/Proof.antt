@@ -1,3 +1,4 @@
+-- `models::vpwl::at_end` meets its contract: by the one test. Assumes nothing.
 use Rattle.models.proofs.vpwl.at_end.Statement.{statement}
 use Rattle.models.proofs.vpwl.at_end.Tie as tie
 

@@ -1,3 +1,4 @@
+-- `models::vpwl::level` meets its contract: one rule or the other, by the option. Assumes nothing.
 use borrow.Author.Needs.{needs}
 use Rattle.models.specs.Vpwl.{patternOf}
 use Rattle.models.proofs.vpwl.level.Statement.{statement}
