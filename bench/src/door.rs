@@ -97,6 +97,11 @@ pub fn pattern(points: &[u8], t_delay: f64, repeat: f64, t: f64) -> Option<f64> 
     Some(unsafe { savrunte_pattern(points.as_ptr(), points.len(), t_delay, repeat, t) })
 }
 
+/// The same by the rule of the option on.
+pub fn pattern_first(points: &[u8], t_delay: f64, repeat: f64, t: f64) -> Option<f64> {
+    Some(unsafe { savrunte_pattern_first(points.as_ptr(), points.len(), t_delay, repeat, t) })
+}
+
 pub fn capacitor(value: f64, v: f64, step: f64) -> Option<(f64, f64)> {
     let a = unsafe { savrunte_capacitor(value, v, step) };
     Some((a.g, a.i))

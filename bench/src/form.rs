@@ -491,6 +491,48 @@ mod tests {
     }
 
     #[test]
+    fn the_option_for_patterns_is_word_31_of_jobs_and_spreads() {
+        let (mut job, _) = list().swap_remove(0);
+        let mut call = spread_calls::call(7, 0);
+        for (catchup, first) in [(0, 1), (5, 1 << 63), (u64::MAX, 2), (1, u64::MAX)] {
+            (job.options.catchup, job.options.pattern_first) = (catchup, first);
+            (call.options.catchup, call.options.pattern_first) = (catchup, first);
+            let (two, calls) = (job.bytes(Form::Two), call.bytes(Form::Two));
+            for bytes in [&two, &calls] {
+                assert_eq!((word(bytes, 1), word(bytes, 30), word(bytes, 31)), (Some(32), Some(catchup), Some(first)));
+            }
+            let options = |b: &[u8]| Job::read(b, Form::Two).map(|j| (j.options.catchup, j.options.pattern_first));
+            let of_call = |b: &[u8]| Call::read(b).map(|c| (c.options.catchup, c.options.pattern_first));
+            assert_eq!((options(&two), of_call(&calls)), (Some((catchup, first)), Some((catchup, first))));
+            // a head of 31 words has it off, one of 30 both
+            assert_eq!(options(&resized(&two, 31, 0)), Some((catchup, 0)));
+            assert_eq!(of_call(&regrown(&calls, 31, 0)), Some((catchup, 0)));
+            assert_eq!(options(&resized(&two, 30, 0)), Some((0, 0)));
+            assert_eq!(of_call(&regrown(&calls, 30, 0)), Some((0, 0)));
+            assert_eq!(of_call(&regrown(&calls, 24, 0)), Some((0, 0)));
+            // and behind it nothing is known
+            assert_eq!(options(&resized(&two, 64, 0)), Some((catchup, first)));
+            assert_eq!((options(&resized(&two, 33, 1)), of_call(&regrown(&calls, 33, 1))), (None, None));
+            // a count that goes past the end
+            assert!(options(&two[..8 * 31]).is_none() && of_call(&calls[..8 * 31]).is_none());
+        }
+        // off it takes no word
+        job.options.pattern_first = 0;
+        assert_eq!(word(&job.bytes(Form::Two), 1), Some(31));
+        job.options.catchup = 0;
+        assert_eq!(word(&job.bytes(Form::Two), 1), Some(30));
+    }
+
+    #[test]
+    #[should_panic(expected = "form 1 has no place")]
+    fn form_1_has_no_option_for_patterns() {
+        let mut call = spread_calls::call(7, 0);
+        call.options.pattern_first = 1;
+        call.tolerances.clear();
+        call.bytes(Form::One);
+    }
+
+    #[test]
     fn tolerances_stand_behind_the_points() {
         for place in 0..200 {
             let call = spread_calls::sound_call(7, place);

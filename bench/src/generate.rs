@@ -18,6 +18,8 @@ pub enum Sort {
     Damaged,
     /// Sources, and behind resistors nodes that diodes clamp, for the jobs that wait.
     Clamped,
+    /// Patterns as sources, and behind resistors nodes with capacitors and a few diodes.
+    Patterned,
 }
 
 fn sort(r: &mut Random) -> Sort {
@@ -214,7 +216,8 @@ fn tie(m: &mut Maker, elements: &mut Vec<Element>) {
 fn clamps(m: &mut Maker, sources: usize, elements: &mut Vec<Element>) {
     let driven = sources.min(m.nodes.saturating_sub(1));
     for k in 0..driven {
-        let kind = m.r.pick(&[3, 3, 3, 6, 7]);
+        let kinds = if m.sort == Sort::Patterned { [7, 7, 7, 7, 3] } else { [3, 3, 3, 6, 7] };
+        let kind = m.r.pick(&kinds);
         let mut e = m.element(kind);
         (e.a, e.b) = (1 + k as u16, 0);
         elements.push(e);
@@ -229,7 +232,8 @@ fn clamps(m: &mut Maker, sources: usize, elements: &mut Vec<Element>) {
         put(m, 1, if driven > 0 { before.max(1) } else { before }, false);
         let to = if m.r.one_in(3) { m.r.below(k) } else { 0 };
         let turned = m.r.one_in(3);
-        put(m, 4, to, turned);
+        let clamp = if m.sort == Sort::Patterned { m.r.pick(&[1, 1, 8, 4]) } else { 4 };
+        put(m, clamp, to, turned);
         for kind in [1, 8, 2] {
             if m.r.one_in(4) {
                 put(m, kind, 0, false);
@@ -331,6 +335,155 @@ pub fn waiting(seed: u64, place: u64) -> (Job, Sort) {
     (job, sort)
 }
 
+/// The job of a seed and a place with the option for patterns on, the other one on in one of four: one job in four is of the sorts
+/// above, the others drive their nodes by patterns. Their patterns start away from zero, and steps meet points and ends.
+pub fn first(seed: u64, place: u64) -> (Job, Sort) {
+    let mut r = Random::new(seed ^ 0x5041_5454_4552_4e31, place);
+    let sort = if r.one_in(4) { sort(&mut r) } else { Sort::Patterned };
+    let mut job = make(&mut r, sort);
+    if sort == Sort::Patterned {
+        clock(&mut r, &mut job.options);
+    }
+    if sort != Sort::Damaged {
+        let times = instants(&job.options);
+        patterns(&mut r, &mut job, &times);
+    }
+    if r.one_in(4) {
+        if r.one_in(2) {
+            loosen(&mut r, &mut job.options);
+        }
+        job.options.catchup = on(&mut r);
+    }
+    job.options.pattern_first = on(&mut r);
+    (job, sort)
+}
+
+/// Steps that mostly do not grow, so that their times are known beforehand.
+fn clock(r: &mut Random, o: &mut Options) {
+    o.tstep = r.pick(&[1.0, 0.5, 0.25, 0.1, 0.3, 1e-3]);
+    o.fs = r.pick(&[1.0, 1.0, 1.0, 0.5, 0.1]);
+    o.tstop = o.tstep * o.fs * (1 + r.below(10)) as f64;
+    o.tstart = if r.one_in(6) { o.tstop * r.unit() } else { 0.0 };
+    o.itl1 = r.pick(&[1, 2, 5, 10, 50]);
+    o.itl3 = r.pick(&[0, 0, 0, 6]);
+    o.itl4 = r.pick(&[2, 3, 5, 10, 10, 50]);
+}
+
+/// The times of steps that do not grow.
+pub fn instants(o: &Options) -> Vec<f64> {
+    let mut times = vec![0.0];
+    for k in 0..12 {
+        times.push(times[k] + o.tstep * o.fs);
+    }
+    times
+}
+
+/// A pattern's part of the points, its delay and its repeat.
+pub struct Pattern {
+    pub first: usize,
+    pub count: usize,
+    pub delay: f64,
+    pub repeat: f64,
+}
+
+impl Pattern {
+    /// A record of a source made one of this pattern.
+    pub fn put(&self, e: &mut Element) {
+        e.kind = 7;
+        e.first = self.first as u16;
+        e.count = self.count as u16;
+        e.value = [self.delay, self.repeat, 0.0];
+    }
+}
+
+/// Every pattern drawn anew, and half of the other sources made one.
+fn patterns(r: &mut Random, job: &mut Job, times: &[f64]) {
+    let mut elements = job.elements();
+    let mut points = Vec::new();
+    for e in elements.iter_mut() {
+        if e.kind == 7 || matches!(e.kind, 3 | 6) && r.one_in(2) {
+            away(r, times, &mut points).put(e);
+        }
+    }
+    job.set_elements(&elements);
+    job.set_pattern(&points);
+}
+
+/// A pattern that starts away from zero, its points and ends among the times given; the points are added to those there are.
+pub fn away(r: &mut Random, times: &[f64], points: &mut Vec<(f64, f64)>) -> Pattern {
+    let step = times[1];
+    let delay = match r.below(12) {
+        0..=4 => 0.0,
+        5 => -0.0,
+        6..=8 => times[1 + r.below(4)],
+        9 => r.pick(&[f64::NAN, -step, step * 0.5, -0.5]),
+        10 => step * r.between(0.0, 3.0),
+        _ => r.any(),
+    };
+    let repeat = match r.below(12) {
+        0..=4 => -1.0,
+        5 | 6 => 1.0,
+        7 => 0.0,
+        8 => -0.0,
+        9 => f64::NAN,
+        10 => r.pick(&[-5e-324, 5e-324, f64::NEG_INFINITY]),
+        _ => r.any(),
+    };
+    // sometimes points of an earlier one again
+    if !points.is_empty() && r.one_in(6) {
+        let first = r.below(points.len() + 1);
+        let count = r.below(points.len() - first + 1);
+        return Pattern { first, count, delay, repeat };
+    }
+    let first = points.len();
+    let count = match r.below(12) {
+        0 => 0,
+        1 | 2 => 1,
+        3..=5 => 2,
+        _ => 3 + r.below(4),
+    };
+    let mut t = match r.below(12) {
+        0..=3 => 0.0,
+        4..=6 => times[1 + r.below(3)],
+        7 => -step * r.pick(&[1.0, 2.0, 0.5]),
+        8 => step * r.unit(),
+        9 => -0.0,
+        10 => r.any(),
+        _ => step * 0.5,
+    };
+    for _ in 0..count {
+        let level = match r.below(12) {
+            0 => 0.0,
+            1 => r.any(),
+            2..=6 => r.round(),
+            _ => r.between(-5.0, 5.0),
+        };
+        points.push((t, level));
+        t = match r.below(14) {
+            0 => t,
+            1 => t - step,
+            2..=7 => t + step,
+            8 => t + 2.0 * step,
+            9 => t + step * 0.5,
+            10 => t + step * r.unit(),
+            11 => t - step * r.unit(),
+            _ => times[r.below(8)],
+        };
+    }
+    if count > 0 {
+        let start = points[first].0;
+        let last = &mut points[first + count - 1].0;
+        match r.below(12) {
+            0 => *last = r.pick(&[0.0, -0.0, start]),
+            1 => *last = -step * r.unit(),
+            2 | 3 => *last = times[1 + r.below(8)] - delay,
+            4 if r.one_in(3) => *last = r.special(),
+            _ => {}
+        }
+    }
+    Pattern { first, count, delay, repeat }
+}
+
 /// The option on: any word but 0.
 pub fn on(r: &mut Random) -> u64 {
     match r.below(8) {
@@ -349,8 +502,10 @@ pub fn loosen(r: &mut Random, o: &mut Options) {
 
 /// A job of one sort.
 pub fn make(r: &mut Random, sort: Sort) -> Job {
-    let unknowns = size(r);
-    let most_sources = r.below((unknowns / 2).min(8) + 1);
+    // a pattern needs a node and a source
+    let (least, driver) = if sort == Sort::Patterned { (3, 1) } else { (1, 0) };
+    let unknowns = size(r).max(least);
+    let most_sources = r.below((unknowns / 2).min(8) + 1).max(driver);
     let nodes = unknowns - most_sources.min(unknowns - 1);
     let options = options(r, sort);
     let transient = !r.one_in(4);
@@ -362,11 +517,12 @@ pub fn make(r: &mut Random, sort: Sort) -> Job {
         _ => 1 + m.r.below(2 * nodes + 2),
     };
     let mut sources = 0;
-    if sort == Sort::Clamped {
+    let driven = matches!(sort, Sort::Clamped | Sort::Patterned);
+    if driven {
         clamps(&mut m, most_sources, &mut elements);
         sources = most_sources;
     }
-    let count = if sort == Sort::Clamped { m.r.below(3) } else { count };
+    let count = if driven { m.r.below(3) } else { count };
     for _ in 0..count {
         let mut kind = match sort {
             Sort::HotDiodes if m.r.one_in(3) => 4,

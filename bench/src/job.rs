@@ -30,6 +30,7 @@ pub const OPTION_NAMES: [&str; OPTIONS] = [
     "itl4",
     "budget",
     "catchup",
+    "pattern_first",
 ];
 
 impl Options {

@@ -4,7 +4,7 @@ use crate::compare::*;
 use crate::form::{file, Form};
 use crate::generate::{self, Sort};
 use crate::job::*;
-use crate::model::{self, Wrong, WRONG, WRONG_BEHIND};
+use crate::model::{self, Wrong, WRONG, WRONG_BEHIND, WRONG_PATTERN, WRONG_WORD};
 use crate::shrink::shrink;
 use crate::sides::{self, MUST_AGREE, OURS, PAIRS};
 use crate::tally::{Progress, Tally};
@@ -96,7 +96,7 @@ impl Apart {
 /// The job of a seed and a place.
 type Draw = fn(u64, u64) -> (Job, Sort);
 
-/// One of the two lists of random jobs: with the option off, and with it on.
+/// One of the three lists of random jobs: with every option off, with `catchup` on, and with `pattern_first` on.
 struct List {
     name: &'static str,
     draw: Draw,
@@ -108,7 +108,8 @@ fn off() -> List {
     // the diode that is behind is told here too, and the option must do nothing
     let of_option = |w: &Wrong| format!("{:?}", w).starts_with("Catchup") && *w != Wrong::CatchupAlways;
     let behind = WRONG_BEHIND.iter().filter(|w| !of_option(&w.0) && w.0 != Wrong::WaitingIsFree);
-    List { name: "jobs", draw: generate::job, wrong: WRONG.iter().chain(behind).copied().collect() }
+    let always = WRONG_WORD.iter().filter(|w| w.0 == Wrong::FirstAlways);
+    List { name: "jobs", draw: generate::job, wrong: WRONG.iter().chain(behind).chain(always).copied().collect() }
 }
 
 fn on() -> List {
@@ -116,9 +117,15 @@ fn on() -> List {
     List { name: "waiting jobs", draw: generate::waiting, wrong }
 }
 
-/// Runs `count` jobs with the option off and as many with it on; answers the number that differ where none may.
+fn first() -> List {
+    let wrong = WRONG_PATTERN.iter().chain(WRONG_WORD).filter(|w| w.0 != Wrong::FirstAlways).copied().collect();
+    List { name: "pattern jobs", draw: generate::first, wrong }
+}
+
+/// Runs `count` jobs with both options off, as many with `catchup` on and as many with `pattern_first` on; answers the number that
+/// differ where none may.
 pub fn run(seed: u64, count: u64, folder: &str) -> u64 {
-    run_list(&off(), seed, count, folder) + run_list(&on(), seed, count, folder)
+    [off(), on(), first()].iter().map(|list| run_list(list, seed, count, folder)).sum()
 }
 
 fn run_list(list: &List, seed: u64, count: u64, folder: &str) -> u64 {
@@ -133,10 +140,12 @@ fn run_list(list: &List, seed: u64, count: u64, folder: &str) -> u64 {
     let mut told = vec![0u64; list.wrong.len()];
     let mut sizes = [0u64; 49];
     let mut behind = Behind::default();
+    let mut moved = Moved::default();
     for place in 0..count {
         let (job, sort) = (list.draw)(seed, place);
         let outcome = sides::run(&job);
         behind.add(&job, &outcome);
+        moved.add(&job, &outcome);
         outcomes.add(&outcome.answer.outcome());
         sorts.add(&format!("{:?}", sort));
         if outcome.answer.refusal == 0 {
@@ -185,6 +194,7 @@ fn run_list(list: &List, seed: u64, count: u64, folder: &str) -> u64 {
         high
     );
     behind.tell();
+    moved.tell();
     for p in 0..5 {
         if compared[p] > 0 {
             println!("  {}: {} compared, {} differ", PAIRS[p], compared[p], differing[p]);
@@ -216,9 +226,9 @@ struct Behind {
 
 impl Behind {
     fn add(&mut self, job: &Job, o: &sides::Outcome) {
-        if o.held != 0 {
+        if o.beyond.held != 0 {
             self.waited[job.transient as usize] += 1;
-            self.passes += o.held;
+            self.passes += o.beyond.held;
             self.waited_to.add(&o.answer.outcome());
         }
         self.named[(o.answer.verdict != 0) as usize] += (o.answer.behind != Some(0)) as u64;
@@ -241,15 +251,82 @@ impl Behind {
     }
 }
 
-/// One job of a seed, of either list: its words, its answer, and what differs.
-pub fn show_one(seed: u64, place: u64, waits: bool) -> u64 {
-    let list = if waits { on() } else { off() };
+/// What a list has of patterns that the option moves.
+#[derive(Default)]
+struct Moved {
+    /// Jobs with the option on that run, those with a pattern in them, and those where another word than 1 turns it on.
+    on: [u64; 3],
+    /// Jobs in which an evaluation gave other bits: DC runs, transients; and the evaluations that did.
+    moved: [u64; 2],
+    evaluations: u64,
+    moved_to: Tally,
+    /// Jobs that are answered in another way with the option off: DC runs, transients; and those of them with another verdict.
+    other: [u64; 2],
+    verdicts: u64,
+}
+
+impl Moved {
+    fn add(&mut self, job: &Job, o: &sides::Outcome) {
+        if job.options.pattern_first == 0 || o.answer.refusal != 0 {
+            return;
+        }
+        let has = job.elements().iter().any(|e| e.kind == 7);
+        for (count, more) in self.on.iter_mut().zip([true, has, job.options.pattern_first != 1]) {
+            *count += more as u64;
+        }
+        if o.beyond.moved == 0 {
+            return;
+        }
+        let at = job.transient as usize;
+        self.moved[at] += 1;
+        self.evaluations += o.beyond.moved;
+        self.moved_to.add(&o.answer.outcome());
+        let mut off = job.clone();
+        off.options.pattern_first = 0;
+        let before = model::run(&off, &OURS, Wrong::Nothing);
+        self.other[at] += !compare(job, &before, &o.answer, ALL).is_empty() as u64;
+        self.verdicts += (before.verdict != o.answer.verdict) as u64;
+    }
+
+    fn tell(&self) {
+        let [on, has, words] = self.on;
+        if on == 0 {
+            return;
+        }
+        println!(
+            "  pattern_first on: {} jobs that run, {} of them with a pattern; by another word than 1: {}",
+            on, has, words
+        );
+        let [dc, transient] = self.moved;
+        println!(
+            "  a pattern is moved at least once: {} jobs, {} DC and {} transient, {} evaluations in all; they end with {}",
+            dc + transient,
+            dc,
+            transient,
+            self.evaluations,
+            self.moved_to.line()
+        );
+        let [dc, transient] = self.other;
+        println!(
+            "  answered in another way with pattern_first off: {} jobs, {} DC and {} transient; of these with another verdict {}",
+            dc + transient,
+            dc,
+            transient,
+            self.verdicts
+        );
+    }
+}
+
+/// One job of a seed, of one of the three lists: its words, its answer, and what differs.
+pub fn show_one(seed: u64, place: u64, which: usize) -> u64 {
+    let list = [off, on, first][which]();
     let (job, sort) = (list.draw)(seed, place);
     let o = sides::run(&job);
     println!("job {} of seed {} ({:?}): {}", place, seed, sort, describe(&job));
     let a = &o.answer;
     println!("{}, DC verdict {}, passes {}, rows {}, end {:?}", a.outcome(), a.dc_verdict, a.passes, a.rows, a.end);
-    println!("diode behind {:?}, passes that waited {}", a.behind, o.held);
+    let (held, moved) = (o.beyond.held, o.beyond.moved);
+    println!("diode behind {:?}, passes that waited {}, patterns moved {}", a.behind, held, moved);
     for (p, pair) in o.pairs.iter().enumerate() {
         for d in pair.iter().flatten().take(20) {
             println!("  {}: {}", PAIRS[p], show(d));

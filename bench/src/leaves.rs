@@ -1,5 +1,6 @@
 //! The leaves at scale: solve, convergence, pattern, capacitor, diode and sines, each on the
-//! shipped code, the model and the Rust; functions, the judge and diodes behind on the shipped code and a second writing.
+//! shipped code, the model and the Rust; functions, the judge, diodes behind and patterns with the option on on the shipped code and
+//! a second writing.
 
 use crate::behind;
 use crate::compare::same;
@@ -7,8 +8,9 @@ use crate::directed::Build;
 use crate::door;
 use crate::exact;
 use crate::functions::STANDING_IN;
+use crate::generate;
 use crate::job::*;
-use crate::model::{self, Matrix, State, Wrong};
+use crate::model::{self, Matrix, Sentence, State, Wrong, SENTENCES, WRONG_PATTERN};
 use crate::oracle::{hooked, plain};
 use crate::random::Random;
 use crate::sides::OURS;
@@ -20,11 +22,19 @@ struct Trial {
     /// Named answers; floats as they are, other numbers as whole floats.
     answers: Vec<(&'static str, Vec<f64>)>,
     sort: String,
+    /// Wrong readings that it would tell.
+    tells: Vec<Wrong>,
+}
+
+impl Trial {
+    fn new(input: String, answers: Vec<(&'static str, Vec<f64>)>, sort: String) -> Trial {
+        Trial { input, answers, sort, tells: Vec::new() }
+    }
 }
 
 type Draw = fn(&mut Random) -> Trial;
 
-const LEAVES: [(&str, Draw); 9] = [
+const LEAVES: [(&str, Draw); 11] = [
     ("solve", solve),
     ("convergence", convergence),
     ("pattern", pattern),
@@ -34,6 +44,8 @@ const LEAVES: [(&str, Draw); 9] = [
     ("functions", functions),
     ("judge", judge),
     ("behind", late),
+    ("patterns away from zero, off", away_off),
+    ("patterns away from zero, on", away_on),
 ];
 
 fn agree(a: &[f64], b: &[f64]) -> bool {
@@ -46,11 +58,13 @@ pub fn run(seed: u64, count: u64) -> u64 {
     for (which, (name, draw)) in LEAVES.iter().enumerate() {
         let mut progress = Progress::new(name, count);
         let mut sorts = Tally::default();
+        let mut told = Tally::default();
         let mut differ = 0;
         let mut sides = String::new();
         for place in 0..count {
             let trial = draw(&mut Random::new(seed + 1000 * (which as u64 + 1), place));
             sorts.add(&trial.sort);
+            trial.tells.iter().for_each(|wrong| told.add(&format!("{:?}", wrong)));
             let first = &trial.answers[0];
             if trial.answers.iter().any(|a| !agree(&a.1, &first.1)) {
                 differ += 1;
@@ -68,6 +82,9 @@ pub fn run(seed: u64, count: u64) -> u64 {
         }
         progress.end();
         println!("{}: {} in {:.0} s ({}), {} differ; {}", name, count, progress.seconds(), sides, differ, sorts.line());
+        if !told.0.is_empty() {
+            println!("  so many would tell a wrong reading: {}", told.line());
+        }
         all += differ;
     }
     all
@@ -109,7 +126,7 @@ fn solve(r: &mut Random) -> Trial {
     let mut answers = vec![("model", x), ("Rust", hooked::solve(n, &m))];
     answers.extend(shipped_solve(n, &m).map(|x| ("shipped", x)));
     answers.extend(refused_solve(r, n).map(|x| ("shipped, refused", x)));
-    Trial { input: format!("N {}, {:?}", n, m), answers, sort: sort.to_string() }
+    Trial::new(format!("N {}, {:?}", n, m), answers, sort.to_string())
 }
 
 /// The shipped vector; a refusal or a change past the lengths named spoils it.
@@ -187,11 +204,11 @@ fn convergence(r: &mut Random) -> Trial {
             answers.push(("shipped, y too short", numbers(c)));
         }
     }
-    Trial {
-        input: format!("x {:?}, y {:?}, nodes {}, tolerances {:?} {:?} {:?}", x, y, nodes, o.reltol, o.vntol, o.abstol),
+    Trial::new(
+        format!("x {:?}, y {:?}, nodes {}, tolerances {:?} {:?} {:?}", x, y, nodes, o.reltol, o.vntol, o.abstol),
         answers,
-        sort: ["yes", "no", "error"][a as usize].to_string(),
-    }
+        ["yes", "no", "error"][a as usize].to_string(),
+    )
 }
 
 fn pattern(r: &mut Random) -> Trial {
@@ -221,13 +238,100 @@ fn pattern(r: &mut Random) -> Trial {
     };
     let a = model::pattern(&points, delay, repeat, at, Wrong::Nothing);
     let mut answers = vec![("model", vec![a]), ("Rust", vec![plain::pattern(&points, delay, repeat, at)])];
-    let bytes: Vec<u8> = points.iter().flat_map(|p| [p.0.to_le_bytes(), p.1.to_le_bytes()].concat()).collect();
-    answers.extend(door::pattern(&bytes, delay, repeat, at).map(|x| ("shipped", vec![x])));
-    Trial {
-        input: format!("points {:?}, delay {:?}, repeat {:?}, time {:?}", points, delay, repeat, at),
-        answers,
-        sort: sort_of(a),
+    answers.extend(door::pattern(&point_bytes(&points), delay, repeat, at).map(|x| ("shipped", vec![x])));
+    let input = format!("points {:?}, delay {:?}, repeat {:?}, time {:?}", points, delay, repeat, at);
+    Trial::new(input, answers, sort_of(a))
+}
+
+pub fn point_bytes(points: &[(f64, f64)]) -> Vec<u8> {
+    points.iter().flat_map(|p| [p.0.to_le_bytes(), p.1.to_le_bytes()].concat()).collect()
+}
+
+/// A pattern that the option is about, and a time that meets its delay, a point, its end or a later cycle, or one float beside.
+struct Away {
+    points: Vec<(f64, f64)>,
+    delay: f64,
+    repeat: f64,
+    at: f64,
+    /// Bytes behind the points that make no whole one.
+    spare: usize,
+}
+
+impl Away {
+    fn draw(r: &mut Random) -> Away {
+        let mut points = Vec::new();
+        let step = if r.one_in(3) { r.pick(&[0.1, 0.3, 1.4]) } else { r.pick(&[0.25, 0.5, 1.0]) };
+        let times = generate::instants(&Options { tstep: step, fs: 1.0, ..Options::usual() });
+        let generate::Pattern { delay, repeat, .. } = generate::away(r, &times, &mut points);
+        let last = points.last().map_or(step, |p| p.0);
+        let point = if points.is_empty() { 0.0 } else { points[r.below(points.len())].0 };
+        let start = points.first().map_or(0.0, |p| p.0);
+        let cycles = (1 + r.below(3)) as f64;
+        let at = match r.below(14) {
+            0 => r.any(),
+            1 => delay,
+            2 | 3 => delay + last,
+            4 => delay + point,
+            5 => delay + start,
+            6 => delay + last * cycles + start,
+            7 => delay + last * cycles + point,
+            8 => delay + last * cycles,
+            9 => delay + last * r.unit(),
+            10 => delay + start * r.unit(),
+            11 => delay - step * r.unit(),
+            12 => r.pick(&[0.0, -0.0, f64::NAN, f64::INFINITY, -0.5]),
+            _ => times[r.below(8)],
+        };
+        let beside = if r.one_in(5) { r.pick(&[1, u64::MAX]) } else { 0 };
+        let at = f64::from_bits(at.to_bits().wrapping_add(beside));
+        let spare = if r.one_in(8) { 1 + r.below(15) } else { 0 };
+        Away { points, delay, repeat, at, spare }
     }
+
+    fn bytes(&self) -> Vec<u8> {
+        [point_bytes(&self.points), vec![0x3f; self.spare]].concat()
+    }
+
+    fn words(&self) -> String {
+        let Away { points, delay, repeat, at, spare } = self;
+        let bits = at.to_bits();
+        format!(
+            "points {:?}, {} bytes behind, delay {:?}, repeat {:?}, time {:?} ({:016x})",
+            points, spare, delay, repeat, at, bits
+        )
+    }
+
+    /// By the rule with the option on, the sentence too.
+    fn first(&self, wrong: Wrong) -> (Sentence, f64) {
+        model::pattern_first(&self.points, self.delay, self.repeat, self.at, wrong)
+    }
+
+    fn plain(&self) -> f64 {
+        model::pattern(&self.points, self.delay, self.repeat, self.at, Wrong::Nothing)
+    }
+}
+
+/// Such patterns by the rule without the option.
+fn away_off(r: &mut Random) -> Trial {
+    let a = Away::draw(r);
+    let level = a.plain();
+    let rust = plain::pattern(&a.points, a.delay, a.repeat, a.at);
+    let mut answers = vec![("model", vec![level]), ("Rust", vec![rust])];
+    answers.extend(door::pattern(&a.bytes(), a.delay, a.repeat, a.at).map(|x| ("shipped", vec![x])));
+    Trial::new(a.words(), answers, sort_of(level))
+}
+
+/// Every sentence of the rule with the option on.
+fn away_on(r: &mut Random) -> Trial {
+    let a = Away::draw(r);
+    let (sentence, level) = a.first(Wrong::Nothing);
+    let mut answers = vec![("second writing", vec![level])];
+    answers.extend(door::pattern_first(&a.bytes(), a.delay, a.repeat, a.at).map(|x| ("shipped", vec![x])));
+    let place = SENTENCES.iter().position(|s| s.0 == sentence).unwrap();
+    let moved = if same(level, a.plain()) { "same as off" } else { "another than off" };
+    let mut trial = Trial::new(a.words(), answers, format!("{}. {}, {}", place + 1, SENTENCES[place].1, moved));
+    trial.tells = WRONG_PATTERN.iter().map(|w| w.0).filter(|wrong| !same(a.first(*wrong).1, level)).collect();
+    trial
 }
 
 fn sort_of(x: f64) -> String {
@@ -249,7 +353,7 @@ fn capacitor(r: &mut Random) -> Trial {
     let (h, j) = plain::capacitor(value, v, step);
     let mut answers = vec![("model", vec![g, i]), ("Rust", vec![h, j])];
     answers.extend(door::capacitor(value, v, step).map(|(g, i)| ("shipped", vec![g, i])));
-    Trial { input: format!("value {:?}, v {:?}, step {:?}", value, v, step), answers, sort: sort_of(i) }
+    Trial::new(format!("value {:?}, v {:?}, step {:?}", value, v, step), answers, sort_of(i))
 }
 
 fn diode(r: &mut Random) -> Trial {
@@ -292,14 +396,14 @@ fn diode(r: &mut Random) -> Trial {
     let mut answers = vec![("model", a), ("Rust", b)];
     let numbers = |(verdict, [g, i, m]): (u64, [f64; 3])| vec![verdict as f64, g, i, m];
     answers.extend(door::diode(i_sat, tdegc, v, memory, &o).map(|d| ("shipped", numbers(d))));
-    Trial {
-        input: format!(
+    Trial::new(
+        format!(
             "i_sat {:?}, tdegc {:?}, v {:?}, memory {:?}, gmin {:?}, thermal voltage {:?}",
             i_sat, tdegc, v, memory, o.gmin, vt
         ),
         answers,
-        sort: sort.to_string(),
-    }
+        sort.to_string(),
+    )
 }
 
 /// A sine source alone, in one step of a transient: its value stands on the system's right side.
@@ -342,7 +446,7 @@ fn sines(r: &mut Random) -> Trial {
         answers.push(("shipped run", read(&x)));
     }
     let sort = if a.len() == 1 { "refused".to_string() } else { sort_of(a[1]) };
-    Trial { input: format!("vo {:?}, va {:?}, freq {:?}, t {:?}", vo, va, freq, t), answers, sort }
+    Trial::new(format!("vo {:?}, va {:?}, freq {:?}, t {:?}", vo, va, freq, t), answers, sort)
 }
 
 /// exp, ln and sin against their definitions written out a second time.
@@ -371,7 +475,7 @@ fn functions(r: &mut Random) -> Trial {
         _ => (f.sin)(x).map_or(vec![12.0], |y| vec![0.0, y]),
     };
     let answers = vec![("second writing", value(&STANDING_IN)), ("functions under test", value(&OURS))];
-    Trial { input: format!("{} of {:?} ({:016x})", which, x, x.to_bits()), answers, sort: which.to_string() }
+    Trial::new(format!("{} of {:?} ({:016x})", which, x, x.to_bits()), answers, which.to_string())
 }
 
 /// The judge against exact whole numbers: systems that cancel to the last bit, and tolerances at the edge.
@@ -429,11 +533,7 @@ fn judge(r: &mut Random) -> Trial {
     } else {
         (if a.1 == rows as u64 { "accepted" } else { "a row named" }).to_string()
     };
-    Trial {
-        input: format!("rows {}, system {:?}, x {:?}, tolerances {:?}", rows, system, x, tolerances),
-        answers,
-        sort,
-    }
+    Trial::new(format!("rows {}, system {:?}, x {:?}, tolerances {:?}", rows, system, x, tolerances), answers, sort)
 }
 
 /// Diodes that are behind: memories at the tolerance and next to it, odd options, short vectors and memories, damaged records.
@@ -480,14 +580,14 @@ fn late(r: &mut Random) -> Trial {
     let a = behind::first(&sheet, &vector, &memory, &o, Wrong::Nothing);
     let mut answers = vec![("second writing", vec![a as f64])];
     answers.extend(door::behind(&sheet, &vector, &memory, &o).map(|b| ("shipped", vec![b as f64])));
-    Trial {
-        input: format!(
+    Trial::new(
+        format!(
             "sheet {:?}, vector {:?}, memory {:?}, RELTOL {:?}, VNTOL {:?}",
             sheet, vector, memory, o.reltol, o.vntol
         ),
         answers,
-        sort: (if a == 0 { "none" } else { "a record named" }).to_string(),
-    }
+        (if a == 0 { "none" } else { "a record named" }).to_string(),
+    )
 }
 
 /// What a record remembers: mostly within its tolerance of the voltage across it, often just so, now and then anything.

@@ -4,6 +4,7 @@
 use crate::compare::*;
 use crate::directed;
 use crate::door;
+use crate::first;
 use crate::form::{file, read_file, Form};
 use crate::generate;
 use crate::job::*;
@@ -36,10 +37,11 @@ fn quota(job: &Job, answer: &Answer) -> (String, u64) {
     (key, most)
 }
 
-/// The oracle's answer: the Rust's own where it has one, else the model's; they must agree. The Rust has none where a pass waits.
+/// The oracle's answer: the Rust's own where it has one, else the model's; they must agree. The Rust has none where a pass waits or
+/// a pattern is moved.
 pub fn answer(job: &Job) -> Answer {
-    let (answer, held) = model::run_held(job, &OURS, Wrong::Nothing);
-    if answer.refusal != 0 || held != 0 {
+    let (answer, beyond) = model::run_beyond(job, &OURS, Wrong::Nothing);
+    if answer.refusal != 0 || !beyond.none() {
         return answer;
     }
     let (rust, stopped) = hooked::run(job, &OURS);
@@ -123,7 +125,8 @@ pub fn write_waiting(seed: u64, path: &str) -> u64 {
     let mut classes = Tally::default();
     let mut held_back = 0;
     let mut take = |mut job: Job, always: bool| {
-        let (first, held) = model::run_held(&job, &OURS, Wrong::Nothing);
+        let (first, beyond) = model::run_beyond(&job, &OURS, Wrong::Nothing);
+        let held = beyond.held;
         let key = format!("{}{}", quota(&job, &first).0, if held > 0 { ", waits" } else { "" });
         tighten(&mut job, &first);
         let large = job.lengths.iter().zip(MOST_LENT).any(|(l, most)| *l > most);
@@ -149,6 +152,64 @@ pub fn write_waiting(seed: u64, path: &str) -> u64 {
     let bytes = file(Form::Two, &list);
     println!("{}: {} jobs, {} bytes, seed {}; {}", path, list.len(), bytes.len(), seed, stored(path, &bytes));
     println!("  {} of them wait; {}", held_back, classes.line());
+    0
+}
+
+/// How many random jobs of an ending `write_patterns` takes: of those with a pattern that the option moves, settled and others, and of
+/// those without.
+const MOVED: [u64; 2] = [20, 5];
+const NOT_MOVED: u64 = 1;
+
+/// Its random jobs have short answers; the first of each ending may have a longer one.
+const SHORT: [usize; 2] = [2_400, 800];
+
+/// Writes the jobs about patterns that start away from zero: the directed ones, each once, then random ones with the option on, in
+/// form 2.
+pub fn write_patterns(seed: u64, path: &str) -> u64 {
+    let mut list: Vec<(Job, Option<Answer>)> = Vec::new();
+    let mut seen = Vec::new();
+    let mut classes = Tally::default();
+    let mut counts = [0; 4];
+    let mut take = |mut job: Job, random: bool| {
+        let (first, beyond) = model::run_beyond(&job, &OURS, Wrong::Nothing);
+        let moved = beyond.moved > 0;
+        let key = format!("{}{}", quota(&job, &first).0, if moved { ", moved" } else { "" });
+        let most = if moved { MOVED[(first.verdict != 0) as usize] } else { NOT_MOVED };
+        tighten(&mut job, &first);
+        let large = job.lengths.iter().zip(MOST_LENT).any(|(l, most)| *l > most);
+        assert!(random || !large, "a directed job lends too much: {}", describe(&job));
+        let long = first.bytes(&job, Form::Two).len() > SHORT[(classes.get(&key) > 0) as usize];
+        if random && (large || long || classes.get(&key) >= most) {
+            return;
+        }
+        if random {
+            classes.add(&key);
+        }
+        for (count, more) in counts.iter_mut().zip([!random, random, moved, moved && beyond.held > 0]) {
+            *count += more as u64;
+        }
+        let a = answer(&job);
+        list.push((job, Some(a)));
+    };
+    for d in first::all() {
+        let bytes = d.job.bytes(Form::Two);
+        if !seen.contains(&bytes) {
+            seen.push(bytes);
+            take(d.job, false);
+        }
+    }
+    for place in 0..100_000 {
+        let (job, _) = generate::first(seed, place);
+        let unknowns = job.nodes.saturating_add(job.sources);
+        if unknowns <= 5 && job.sheet.len() <= 6 * RECORD || (unknowns <= 12 && place % 40 == 0) {
+            take(job, true);
+        }
+    }
+    let bytes = file(Form::Two, &list);
+    println!("{}: {} jobs, {} bytes, seed {}; {}", path, list.len(), bytes.len(), seed, stored(path, &bytes));
+    let [directed, random, moved, waits] = counts;
+    println!("  {} directed, {} random: {}", directed, random, classes.line());
+    println!("  in {} of them a pattern is moved, in {} of these a pass waits too", moved, waits);
     0
 }
 

@@ -6,6 +6,7 @@ mod directed;
 #[cfg_attr(not(archive), path = "no_door.rs")]
 mod door;
 mod exact;
+mod first;
 mod form;
 mod functions;
 mod generate;
@@ -52,7 +53,8 @@ fn conclude(differences: u64) -> u64 {
 }
 
 const USAGE: &str = "usage: bench run SEED COUNT FOLDER | directed | show | leaves SEED COUNT | jobs SEED COUNT FOLDER
-    | job SEED PLACE | waiting-job SEED PLACE | find READING SEED COUNT | list SEED FILE [FORM] | list-budget FILE | list-catchup SEED FILE
+    | job SEED PLACE | waiting-job SEED PLACE | pattern-job SEED PLACE | find READING SEED COUNT
+    | list SEED FILE [FORM] | list-budget FILE | list-catchup SEED FILE | list-pattern SEED FILE
     | list-spreads SEED FILE | list-sound SEED FILE
     | replay FILE | speed | time [ROW [FILE]] | spreads SEED CALLS | spread SEED PLACE | sound-spread SEED PLACE | spreads-speed FOLDER FILE";
 
@@ -71,8 +73,9 @@ fn main() {
         "show" => directed::show_all(),
         "leaves" => leaves::run(seed(), count()),
         "jobs" => jobs::run(seed(), count(), text(3, ".")),
-        "job" => jobs::show_one(seed(), number(2, 0), false),
-        "waiting-job" => jobs::show_one(seed(), number(2, 0), true),
+        "job" => jobs::show_one(seed(), number(2, 0), 0),
+        "waiting-job" => jobs::show_one(seed(), number(2, 0), 1),
+        "pattern-job" => jobs::show_one(seed(), number(2, 0), 2),
         "find" => directed::find(number(1, 0) as usize, number(2, 1), number(3, 100_000)),
         "list" => match number(3, 1) {
             1 => list::write(seed(), text(2, "answers.bin"), Form::One),
@@ -84,6 +87,7 @@ fn main() {
         },
         "list-budget" => list::write_budgets(text(1, "answers3.bin")),
         "list-catchup" => list::write_waiting(seed(), text(2, "answers4.bin")),
+        "list-pattern" => list::write_patterns(seed(), text(2, "answers5.bin")),
         "list-spreads" => spread_list::write(seed(), text(2, "spreads.bin")),
         "list-sound" => spread_list::write_sound(seed(), text(2, "sound.bin")),
         "replay" => list::replay(text(1, "answers.bin")),

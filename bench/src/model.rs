@@ -1,10 +1,12 @@
-//! Document 01 written out a second time, plainly: refusals, passes, verdicts, every buffer; and the option that waits for
-//! diodes, which is ours. It decides wherever the Rust has no answer, and is compared with the Rust wherever it has.
+//! Document 01 written out a second time, plainly: refusals, passes, verdicts, every buffer; and the two options that are ours:
+//! one waits for diodes, the other lets a pattern start away from zero. It decides wherever the Rust has no answer, and is
+//! compared with the Rust wherever it has.
 //!
 //! `Wrong` holds readings that are easy to take and wrong; a model with one of them shows
 //! whether a job would tell it apart.
 
 use crate::behind;
+use crate::compare::same;
 use crate::job::*;
 use recorder::Functions;
 
@@ -55,6 +57,34 @@ pub enum Wrong {
     WaitingIsFree,
     BehindOfDc,
     BehindOfSettledOnly,
+    // of patterns that start away from zero, and of their option
+    FirstSingleBeforeDelay,
+    FirstSingleLeftOut,
+    FirstEndStrict,
+    FirstEndByDifference,
+    FirstEndWithoutDelay,
+    FirstEndIgnored,
+    FirstEndRepeats,
+    FirstLastZero,
+    FirstRepeatAtMostZero,
+    FirstNanRepeatOnce,
+    FirstDelayAtMost,
+    FirstHeldBeforeDelay,
+    FirstNoPointNan,
+    FirstLevelBeforeEnd,
+    FirstEqualRamped,
+    FirstNanThrough,
+    FirstLevelAbove,
+    FirstLevelZero,
+    FirstInFirstCycleOnly,
+    FirstCycleWithoutDelay,
+    FirstPastAllHeld,
+    FirstInTransientOnly,
+    FirstInDcOnly,
+    FirstIfOdd,
+    FirstAlways,
+    FirstByCatchup,
+    CatchupByFirst,
 }
 
 pub const WRONG: &[(Wrong, &str)] = &[
@@ -105,6 +135,41 @@ pub const WRONG_BEHIND: &[(Wrong, &str)] = &[
     (Wrong::WaitingIsFree, "a pass that waits does not count against ITL1 and ITL4"),
     (Wrong::BehindOfDc, "a transient's diode is that of its DC vector"),
     (Wrong::BehindOfSettledOnly, "no diode is named where the verdict is not 0"),
+];
+
+/// Readings of a pattern's rule with the option on: what a single evaluation shows.
+pub const WRONG_PATTERN: &[(Wrong, &str)] = &[
+    (Wrong::FirstSingleBeforeDelay, "a single point is asked before the delay"),
+    (Wrong::FirstSingleLeftOut, "a single point is no case of its own"),
+    (Wrong::FirstEndStrict, "it ends at t > its end"),
+    (Wrong::FirstEndByDifference, "the end is compared as t - delay >= the last time"),
+    (Wrong::FirstEndWithoutDelay, "the end is compared as t >= the last time"),
+    (Wrong::FirstEndIgnored, "its end is left to the rule before"),
+    (Wrong::FirstEndRepeats, "with repeat it has its last level at the end too"),
+    (Wrong::FirstLastZero, "past its end it is 0"),
+    (Wrong::FirstRepeatAtMostZero, "repeat <= 0 is without repeat"),
+    (Wrong::FirstNanRepeatOnce, "a NaN repeat is without repeat"),
+    (Wrong::FirstDelayAtMost, "before the delay is t <= delay"),
+    (Wrong::FirstHeldBeforeDelay, "the first level is held before the delay too, as in SPICE"),
+    (Wrong::FirstNoPointNan, "no points give NaN"),
+    (Wrong::FirstLevelBeforeEnd, "the first level is asked before the end"),
+    (Wrong::FirstEqualRamped, "a cycle time equal to the first point's is ramped"),
+    (Wrong::FirstNanThrough, "a NaN cycle time is let through (`<=`)"),
+    (Wrong::FirstLevelAbove, "the first level is that of cycle times above the first point's"),
+    (Wrong::FirstLevelZero, "up to the first point it is 0"),
+    (Wrong::FirstInFirstCycleOnly, "the time since the delay is compared with the first point's, not the cycle time"),
+    (Wrong::FirstCycleWithoutDelay, "the cycle time counts from 0, not from the delay"),
+    (Wrong::FirstPastAllHeld, "past all points the last level is held, where it was ramped to (0, 0) before"),
+];
+
+/// Readings of the option's word and of where it counts.
+pub const WRONG_WORD: &[(Wrong, &str)] = &[
+    (Wrong::FirstInTransientOnly, "the option is ignored in DC"),
+    (Wrong::FirstInDcOnly, "the option is ignored in the transient"),
+    (Wrong::FirstIfOdd, "an even word is off"),
+    (Wrong::FirstAlways, "the option is on when it is 0"),
+    (Wrong::FirstByCatchup, "the word of the other option is read"),
+    (Wrong::CatchupByFirst, "the other option reads this one's word"),
 ];
 
 pub const MOST_UNKNOWNS: u128 = 48;
@@ -213,6 +278,86 @@ pub fn pattern(points: &[(f64, f64)], t_delay: f64, repeat: f64, t: f64, wrong: 
     let slope = (v2 - v1) / (t2 - t1);
     let slope = if slope.is_nan() { 0.0 } else { slope };
     slope * (cycle - t1) + v1
+}
+
+/// The sentence of the request at which a pattern is answered with the option on.
+#[derive(Clone, Copy, PartialEq, Debug)]
+pub enum Sentence {
+    NoPoint,
+    BeforeDelay,
+    Ended,
+    Single,
+    FirstLevel,
+    AsBefore,
+}
+
+pub const SENTENCES: [(Sentence, &str); 6] = [
+    (Sentence::NoPoint, "no points"),
+    (Sentence::BeforeDelay, "before the delay"),
+    (Sentence::Ended, "at or past its end"),
+    (Sentence::Single, "a single point"),
+    (Sentence::FirstLevel, "up to the first point"),
+    (Sentence::AsBefore, "as before"),
+];
+
+/// Level of a pattern with the option on, in the request's order: "no points, or a time before the delay: 0; without repeat and at
+/// or past its end: the last level; a single point: its level; a cycle time not above the first point's: the first level; then as
+/// before". With it the sentence that answered.
+pub fn pattern_first(points: &[(f64, f64)], t_delay: f64, repeat: f64, t: f64, wrong: Wrong) -> (Sentence, f64) {
+    let (first, last) = match (points.first(), points.last()) {
+        (Some(first), Some(last)) => (*first, *last),
+        _ => return (Sentence::NoPoint, if wrong == Wrong::FirstNoPointNan { f64::NAN } else { 0.0 }),
+    };
+    let single = points.len() == 1;
+    if single && wrong == Wrong::FirstSingleBeforeDelay {
+        return (Sentence::Single, first.1);
+    }
+    let before = if wrong == Wrong::FirstDelayAtMost { t <= t_delay } else { t < t_delay };
+    if before {
+        return (Sentence::BeforeDelay, if wrong == Wrong::FirstHeldBeforeDelay { first.1 } else { 0.0 });
+    }
+    let since = t - t_delay;
+    let cycle = if wrong == Wrong::FirstCycleWithoutDelay { t } else { since } % last.0;
+    let asked = if wrong == Wrong::FirstInFirstCycleOnly { since } else { cycle };
+    let up_to_first = match wrong {
+        Wrong::FirstEqualRamped => !(asked >= first.0),
+        Wrong::FirstNanThrough => asked <= first.0,
+        Wrong::FirstLevelAbove => asked > first.0,
+        _ => !(asked > first.0),
+    };
+    let first_level = if wrong == Wrong::FirstLevelZero { 0.0 } else { first.1 };
+    if up_to_first && wrong == Wrong::FirstLevelBeforeEnd {
+        return (Sentence::FirstLevel, first_level);
+    }
+    let once = match wrong {
+        Wrong::FirstRepeatAtMostZero => repeat <= 0.0,
+        Wrong::FirstNanRepeatOnce => !(repeat >= 0.0),
+        Wrong::FirstEndIgnored => false,
+        Wrong::FirstEndRepeats => true,
+        _ => repeat < 0.0,
+    };
+    let over = match wrong {
+        Wrong::FirstEndStrict => t > t_delay + last.0,
+        Wrong::FirstEndByDifference => since >= last.0,
+        Wrong::FirstEndWithoutDelay => t >= last.0,
+        Wrong::FirstEndRepeats => t == t_delay + last.0 || repeat < 0.0 && t >= t_delay + last.0,
+        _ => t >= t_delay + last.0,
+    };
+    if once && over {
+        return (Sentence::Ended, if wrong == Wrong::FirstLastZero { 0.0 } else { last.1 });
+    }
+    if single && wrong != Wrong::FirstSingleLeftOut {
+        return (Sentence::Single, first.1);
+    }
+    if up_to_first {
+        return (Sentence::FirstLevel, first_level);
+    }
+    let past_all = points.iter().all(|p| cycle > p.0);
+    if past_all && wrong == Wrong::FirstPastAllHeld {
+        return (Sentence::AsBefore, last.1);
+    }
+    let from = if wrong == Wrong::FirstCycleWithoutDelay { 0.0 } else { t_delay };
+    (Sentence::AsBefore, pattern(points, from, repeat, t, Wrong::Nothing))
 }
 
 /// A capacitor's conductance and current.
@@ -451,6 +596,21 @@ pub fn convergence(x: &[f64], y: &[f64], nodes: u64, o: &Options, wrong: Wrong) 
     state
 }
 
+/// What a run did that the Rust never does. Where it is none the options have changed nothing.
+#[derive(Clone, Copy, Default, PartialEq, Debug)]
+pub struct Beyond {
+    /// Passes that said "no" for a diode that is behind.
+    pub held: u64,
+    /// Evaluations of a pattern that gave other bits than the rule without the option; a NaN is one NaN.
+    pub moved: u64,
+}
+
+impl Beyond {
+    pub fn none(&self) -> bool {
+        self.held == 0 && self.moved == 0
+    }
+}
+
 /// What storage elements look back at: the last accepted vector and the step.
 struct Storage<'a> {
     accepted: &'a [f64],
@@ -474,8 +634,7 @@ struct Run<'a> {
     /// Vector and memory that the last pass began from.
     before: (Vec<f64>, Vec<f64>),
     passes: u64,
-    /// Passes that said "no" for a diode that is behind.
-    held: u64,
+    beyond: Beyond,
     rows: Vec<f64>,
     row_count: u64,
     room: u64,
@@ -501,16 +660,43 @@ impl<'a> Run<'a> {
         }
     }
 
-    fn independent(&self, m: &mut Matrix, t: f64) -> Result<(), u64> {
-        for e in &self.elements {
+    /// Whether patterns are evaluated with the option on.
+    fn first(&self, in_step: bool) -> bool {
+        let word = self.o.pattern_first;
+        match self.wrong {
+            Wrong::FirstInDcOnly if in_step => false,
+            Wrong::FirstInTransientOnly if !in_step => false,
+            Wrong::FirstIfOdd => word % 2 == 1,
+            Wrong::FirstAlways => true,
+            Wrong::FirstByCatchup => self.o.catchup != 0,
+            _ => word != 0,
+        }
+    }
+
+    /// The level of the Vpwl at a place.
+    fn level(&mut self, place: usize, t: f64, in_step: bool) -> f64 {
+        let e = &self.elements[place];
+        let part = &self.points[e.first as usize..e.first as usize + e.count as usize];
+        let plain = pattern(part, e.value[0], e.value[1], t, self.wrong);
+        if !self.first(in_step) {
+            return plain;
+        }
+        let (_, level) = pattern_first(part, e.value[0], e.value[1], t, self.wrong);
+        self.beyond.moved += !same(level, plain) as u64;
+        level
+    }
+
+    fn independent(&mut self, m: &mut Matrix, t: f64, in_step: bool) -> Result<(), u64> {
+        for k in 0..self.elements.len() {
+            let e = &self.elements[k];
             let (a, b) = (e.a as usize, e.b as usize);
             let [p, q, r] = e.value;
             match e.kind {
                 5 => m.current(a, b, sine(p, q, r, t, self.f).ok_or(26u64)?),
                 6 => m.voltage(self.row(e), a, b, sine(p, q, r, t, self.f).ok_or(26u64)?, self.wrong),
                 7 => {
-                    let part = &self.points[e.first as usize..e.first as usize + e.count as usize];
-                    m.voltage(self.row(e), a, b, pattern(part, p, q, t, self.wrong), self.wrong)
+                    let (row, level) = (self.row(e), self.level(k, t, in_step));
+                    m.voltage(row, a, b, level, self.wrong)
                 }
                 _ => {}
             }
@@ -562,11 +748,12 @@ impl<'a> Run<'a> {
         self.units -= 1;
         self.before = (self.vector.clone(), self.memory.clone());
         let mut m = self.base.clone();
+        let in_step = storage.is_some();
         if self.wrong == Wrong::DependentFirst {
             self.dependent(&mut m);
-            self.independent(&mut m, t)?;
+            self.independent(&mut m, t, in_step)?;
         } else {
-            self.independent(&mut m, t)?;
+            self.independent(&mut m, t, in_step)?;
             self.dependent(&mut m);
         }
         if let Some(s) = storage {
@@ -602,6 +789,7 @@ impl<'a> Run<'a> {
             Wrong::CatchupInTransientOnly if !in_step => false,
             Wrong::CatchupIfOdd => self.o.catchup % 2 == 1,
             Wrong::CatchupAlways => true,
+            Wrong::CatchupByFirst => self.o.pattern_first != 0,
             _ => self.o.catchup != 0,
         }
     }
@@ -611,7 +799,7 @@ impl<'a> Run<'a> {
         let state = convergence(&self.vector, y, self.nodes as u64, &self.o, self.wrong);
         let asked = state == State::Yes || (state == State::Error && self.wrong == Wrong::CatchupOverError);
         if asked && self.waits(in_step) && self.behind() != 0 {
-            self.held += 1;
+            self.beyond.held += 1;
             return State::No;
         }
         state
@@ -619,7 +807,7 @@ impl<'a> Run<'a> {
 
     /// What a pass takes from ITL1 or ITL4: 1, also if it waits.
     fn cost(&self, held_before: u64) -> u64 {
-        !(self.wrong == Wrong::WaitingIsFree && self.held > held_before) as u64
+        !(self.wrong == Wrong::WaitingIsFree && self.beyond.held > held_before) as u64
     }
 
     /// The DC verdict; Err where the run cannot go on after it.
@@ -627,7 +815,7 @@ impl<'a> Run<'a> {
         let mut y = vec![0.0; self.n];
         let mut count = 0;
         while count < self.o.itl1 + 1 {
-            let held = self.held;
+            let held = self.beyond.held;
             self.pass(0.0, None)?;
             match self.state(&y, false) {
                 State::Yes => return Ok(0),
@@ -657,7 +845,7 @@ impl<'a> Run<'a> {
         let mut cut = false;
         let least = self.o.tstep * self.o.rmin;
         loop {
-            let held = self.held;
+            let held = self.beyond.held;
             self.pass(now + *step, Some(Storage { accepted, step: *step }))?;
             let state = self.state(&y, true);
             count += self.cost(held);
@@ -750,15 +938,15 @@ fn either(r: Result<u64, u64>) -> u64 {
 
 /// The whole call.
 pub fn run(job: &Job, f: &Functions, wrong: Wrong) -> Answer {
-    run_held(job, f, wrong).0
+    run_beyond(job, f, wrong).0
 }
 
-/// The whole call, and how many of its passes waited for a diode.
-pub fn run_held(job: &Job, f: &Functions, wrong: Wrong) -> (Answer, u64) {
+/// The whole call, and what it did that the Rust never does.
+pub fn run_beyond(job: &Job, f: &Functions, wrong: Wrong) -> (Answer, Beyond) {
     let (number, place) = refusal(job);
     let mut answer = Answer::refused(job, number, place);
     if number != 0 {
-        return (answer, 0);
+        return (answer, Beyond::default());
     }
     let n = (job.nodes + job.sources) as usize;
     let elements = job.elements();
@@ -784,7 +972,7 @@ pub fn run_held(job: &Job, f: &Functions, wrong: Wrong) -> (Answer, u64) {
         before: (vec![0.0; n], memory.clone()),
         memory,
         passes: 0,
-        held: 0,
+        beyond: Beyond::default(),
         rows: Vec::new(),
         row_count: 0,
         room: (job.lengths[ROWS] / (n + 1)) as u64,
@@ -813,5 +1001,5 @@ pub fn run_held(job: &Job, f: &Functions, wrong: Wrong) -> (Answer, u64) {
     for (buffer, part) in parts.iter() {
         answer.buffers[*buffer][..part.len()].copy_from_slice(part);
     }
-    (answer, run.held)
+    (answer, run.beyond)
 }

@@ -48,6 +48,10 @@ pub fn pattern(_: &[u8], _: f64, _: f64, _: f64) -> Option<f64> {
     None
 }
 
+pub fn pattern_first(_: &[u8], _: f64, _: f64, _: f64) -> Option<f64> {
+    None
+}
+
 pub fn capacitor(_: f64, _: f64, _: f64) -> Option<(f64, f64)> {
     None
 }

@@ -4,7 +4,7 @@
 use crate::compare::*;
 use crate::door;
 use crate::job::*;
-use crate::model::{self, Wrong};
+use crate::model::{self, Beyond, Wrong};
 use crate::oracle::{hooked, plain};
 use recorder::LIBRARY;
 
@@ -26,9 +26,10 @@ pub const MUST_AGREE: usize = 4;
 pub struct Outcome {
     /// The model's answer with our functions.
     pub answer: Answer,
-    /// Its passes that waited for a diode: where there is one the Rust, which never waits, has no answer.
-    pub held: u64,
-    /// Demand 2's domain: not refused, no waiting, the Rust's own numbers, verdict 0, 20, 21 or 23.
+    /// Its passes that waited for a diode, and its patterns that the option moved: where there is one the Rust, which knows neither
+    /// option, has no answer.
+    pub beyond: Beyond,
+    /// Demand 2's domain: not refused, nothing beyond the Rust, the Rust's own numbers, verdict 0, 20, 21 or 23.
     pub domain: bool,
     /// Per pair: None where it was not compared.
     pub pairs: [Option<Vec<Difference>>; 5],
@@ -39,20 +40,20 @@ fn in_domain(verdict: u64) -> bool {
 }
 
 pub fn run(job: &Job) -> Outcome {
-    let (answer, held) = model::run_held(job, &OURS, Wrong::Nothing);
+    let (answer, beyond) = model::run_beyond(job, &OURS, Wrong::Nothing);
     let door = door::run(job);
     let mut pairs = [None, None, None, None, None];
     pairs[0] = door.as_ref().map(|d| compare(job, d, &answer, ALL));
     let mut domain = false;
-    if answer.refusal == 0 && held == 0 {
+    if answer.refusal == 0 && beyond.none() {
         let (rust, stopped) = hooked::run(job, &OURS);
         let scope = Scope { end: !stopped, elimination: false };
         pairs[1] = door.as_ref().map(|d| compare(job, d, &rust, scope));
         pairs[2] = Some(compare(job, &answer, &rust, scope));
         if job.own_numbers() {
             domain = in_domain(answer.verdict);
-            let (library, waited) = model::run_held(job, &LIBRARY, Wrong::Nothing);
-            if in_domain(library.verdict) && waited == 0 {
+            let (library, further) = model::run_beyond(job, &LIBRARY, Wrong::Nothing);
+            if in_domain(library.verdict) && further.none() {
                 let (seen, vector) = plain::run(job);
                 pairs[3] = Some(compare_seen(job, &seen, &vector, &library));
                 let ours = door.as_ref().unwrap_or(&answer);
@@ -60,5 +61,5 @@ pub fn run(job: &Job) -> Outcome {
             }
         }
     }
-    Outcome { answer, held, domain, pairs }
+    Outcome { answer, beyond, domain, pairs }
 }

@@ -7,6 +7,7 @@ use crate::model::{self, Wrong};
 use crate::random::Random;
 use crate::raw::SoundAnswer;
 use crate::sides::OURS;
+use crate::spread_rules::refusal;
 
 pub const MOST_JOBS: usize = 256;
 /// Numbers 0 to 26 are counted; in a sound call causes 0 to 28.
@@ -273,6 +274,91 @@ pub fn call(seed: u64, place: u64) -> Call {
 /// The sound call of a seed and a place: likewise, with tolerances of every sort, and mostly circuits in which diodes are behind.
 pub fn sound_call(seed: u64, place: u64) -> Call {
     drawn(&mut Random::new(seed ^ 0x534f_554e_4443_414c, place), true)
+}
+
+/// The same two as the bench runs them. In one of three the option for patterns is on, and sources have become patterns that start
+/// away from zero; it is drawn from a stream of its own, so that the calls above, which are stored, stay what they are.
+pub fn every_call(seed: u64, place: u64) -> Call {
+    with_patterns(call(seed, place), &mut Random::new(seed ^ 0x5350_5241_5741_5921, place))
+}
+
+pub fn every_sound_call(seed: u64, place: u64) -> Call {
+    with_patterns(sound_call(seed, place), &mut Random::new(seed ^ 0x534f_554e_4157_4159, place))
+}
+
+fn with_patterns(mut call: Call, r: &mut Random) -> Call {
+    if !r.one_in(3) {
+        return call;
+    }
+    call.options.pattern_first = generate::on(r);
+    if refusal(&call) != 0 {
+        return call;
+    }
+    let first = call.single(0);
+    let mut points = first.pattern();
+    let length = call.sheet_length();
+    for (place, sort) in first.elements().iter().map(|e| e.kind).enumerate() {
+        if !matches!(sort, 3 | 6 | 7) || r.one_in(3) {
+            continue;
+        }
+        let pattern = generate::away(r, &[0.0, 0.25, 0.5, 0.75, 1.0, 1.25, 1.5, 1.75, 2.0], &mut points);
+        for sheet in call.sheets.chunks_exact_mut(length) {
+            let record = &mut sheet[place * RECORD..(place + 1) * RECORD];
+            let mut e = Element::read(record);
+            // one that is damaged stays so
+            if e.kind != sort {
+                continue;
+            }
+            pattern.put(&mut e);
+            if r.one_in(3) {
+                e.value[0] = r.pick(&[0.0, -0.0, 0.25, -0.25, -1.0, f64::NAN]);
+            }
+            record.copy_from_slice(&e.bytes());
+        }
+    }
+    call.points = points.iter().flat_map(|p| [p.0.to_le_bytes(), p.1.to_le_bytes()].concat()).collect();
+    call
+}
+
+/// The directed calls, and those about patterns that start away from zero, which are not stored.
+pub fn every_directed() -> Vec<Call> {
+    [directed(), away(false)].concat()
+}
+
+pub fn every_sound_directed() -> Vec<Call> {
+    [sound_directed(), away(true)].concat()
+}
+
+/// One job for each delay, repeat and part of the points that matters at time 0; with every sort of word.
+fn away(sound: bool) -> Vec<Call> {
+    let points = [(0.0, 3.0), (1.0, 4.0), (1.0, 3.0), (2.0, 5.0), (-2.0, 7.0), (0.0, 6.0), (0.0, 8.0)];
+    let one = |first: u16, count: u16, delay: f64, repeat: f64| {
+        let mut job = Build::dc(3, 1).vpwl(1, 0, &points, repeat, 0).r(1, 2, 1.0).r(2, 0, 1.0).job();
+        let mut elements = job.elements();
+        let e = &mut elements[0];
+        (e.first, e.count, e.value[0]) = (first, count, delay);
+        job.set_elements(&elements);
+        job
+    };
+    let mut jobs = Vec::new();
+    for (first, count) in [(0, 0), (0, 1), (0, 2), (2, 2), (4, 1), (5, 2), (0, 7), (4, 2), (6, 2)] {
+        for delay in [0.0, -0.0, 0.5, -0.5, -1.0, f64::NAN] {
+            for repeat in [-1.0, -0.0, 1.0, f64::NAN] {
+                jobs.push(one(first, count, delay, repeat));
+            }
+        }
+    }
+    let sheets: Vec<u8> = jobs.iter().flat_map(|j| j.sheet.clone()).collect();
+    let tolerances = if sound { vec![1e-6; 4] } else { Vec::new() };
+    let base = Call { sound, jobs: jobs.len(), nodes: 3, sources: 1, unknown: 2, sheets, tolerances, ..Call::empty() };
+    let words = [0, 1, 2, 1 << 32, 1 << 63, u64::MAX];
+    let with = |word: u64| {
+        let mut call = Call { points: jobs[0].points.clone(), ..base.clone() };
+        call.options.pattern_first = word;
+        call.fit();
+        call
+    };
+    words.iter().map(|word| with(*word)).collect()
 }
 
 fn drawn(r: &mut Random, sound: bool) -> Call {

@@ -4,7 +4,7 @@ use crate::compare::{same, show, Difference};
 use crate::door;
 use crate::exact;
 use crate::job::*;
-use crate::model::{self, Wrong};
+use crate::model::{self, Beyond, Wrong};
 use crate::oracle::hooked;
 use crate::sides::OURS;
 use crate::spread_calls::{self, *};
@@ -19,11 +19,11 @@ const SIDES: [&str; 4] = [
     "single runs of the Rust with our functions",
 ];
 
-/// One call: the shipped report, the model's single runs with how many of the passes waited, and what differs from each side.
+/// One call: the shipped report, the model's single runs with what they did that the Rust never does, and what differs from each side.
 struct Outcome {
     shipped: Report,
     runs: Vec<Answer>,
-    waited: Vec<u64>,
+    beyond: Vec<Beyond>,
     differences: [Vec<Difference>; 4],
 }
 
@@ -75,17 +75,17 @@ fn held(call: &Call) -> Outcome {
         let shipped = door::spreads(call).unwrap_or_else(|| expected.clone());
         let d = compare(call, &shipped, &expected);
         let differences = [d, Vec::new(), Vec::new(), Vec::new()];
-        return Outcome { shipped, runs: Vec::new(), waited: Vec::new(), differences };
+        return Outcome { shipped, runs: Vec::new(), beyond: Vec::new(), differences };
     }
     let jobs: Vec<Job> = (0..call.jobs).map(|k| call.single(k)).collect();
-    let (runs, waited): (Vec<Answer>, Vec<u64>) =
-        jobs.iter().map(|j| model::run_held(j, &OURS, Wrong::Nothing)).unzip();
-    // the Rust has no refusals and never waits: those jobs are the model's
-    let rust = |(job, (run, held)): (&Job, (&Answer, &u64))| match (run.refusal, held) {
-        (0, 0) => hooked::run(job, &OURS).0,
+    let (runs, beyond): (Vec<Answer>, Vec<Beyond>) =
+        jobs.iter().map(|j| model::run_beyond(j, &OURS, Wrong::Nothing)).unzip();
+    // the Rust has no refusals and no options of ours: those jobs are the model's
+    let rust = |(job, (run, beyond)): (&Job, (&Answer, &Beyond))| match run.refusal {
+        0 if beyond.none() => hooked::run(job, &OURS).0,
         _ => run.clone(),
     };
-    let theirs: Vec<Answer> = jobs.iter().zip(runs.iter().zip(&waited)).map(rust).collect();
+    let theirs: Vec<Answer> = jobs.iter().zip(runs.iter().zip(&beyond)).map(rust).collect();
     let of_model = report(call, &runs, exact::judge, Slip::Nothing);
     let shipped = door::spreads(call).unwrap_or_else(|| of_model.clone());
     let mut ours = Vec::new();
@@ -95,7 +95,7 @@ fn held(call: &Call) -> Outcome {
     }
     let of_rust = report(call, &theirs, exact::judge, Slip::Nothing);
     let differences = [Vec::new(), ours, compare(call, &shipped, &of_model), compare(call, &shipped, &of_rust)];
-    Outcome { shipped, runs, waited, differences }
+    Outcome { shipped, runs, beyond, differences }
 }
 
 /// One of the two calls: its name, its directed and its random calls, and the wrong readings of it.
@@ -109,12 +109,12 @@ struct Kind {
 }
 
 fn plain() -> Kind {
-    let (directed, call) = (spread_calls::directed, spread_calls::call);
+    let (directed, call) = (spread_calls::every_directed, spread_calls::every_call);
     Kind { name: "spreads", directed, call, slips: SLIPS.to_vec(), told: &[] }
 }
 
 fn sound() -> Kind {
-    let (directed, call) = (spread_calls::sound_directed, spread_calls::sound_call);
+    let (directed, call) = (spread_calls::every_sound_directed, spread_calls::every_sound_call);
     Kind { name: "sound spreads", directed, call, slips: [&SLIPS[..], &SOUND_SLIPS].concat(), told: &SOUND_SLIPS }
 }
 
@@ -132,6 +132,9 @@ struct Counts {
     answered: u64,
     /// Jobs of which a pass waited.
     waited: u64,
+    /// Calls that run with the option `pattern_first` on, those that are answered in another way with it off, and their jobs with a
+    /// pattern that it moves.
+    first: [u64; 3],
     none_settled: u64,
     /// Calls whose smallest or largest stands more than once.
     ties: u64,
@@ -158,6 +161,7 @@ impl Counts {
         self.calls.add("run");
         let single = report(call, &o.runs, exact::judge, Slip::Nothing);
         self.add_jobs(call, o, &single);
+        self.add_first(call, o, &single);
         let answer = &single.answer;
         self.none_settled += (answer.settled == 0) as u64;
         let at = call.unknown as usize;
@@ -173,16 +177,32 @@ impl Counts {
         }
     }
 
+    /// What the option for patterns brings.
+    fn add_first(&mut self, call: &Call, o: &Outcome, single: &Report) {
+        if call.options.pattern_first == 0 {
+            return;
+        }
+        let mut off = call.clone();
+        off.options.pattern_first = 0;
+        let moved = o.beyond.iter().filter(|b| b.moved != 0).count() as u64;
+        let runs =
+            || (0..call.jobs).map(|k| model::run(&off.single(k), &OURS, Wrong::Nothing)).collect::<Vec<Answer>>();
+        let other = moved > 0 && !compare(call, &report(&off, &runs(), exact::judge, Slip::Nothing), single).is_empty();
+        for (count, more) in self.first.iter_mut().zip([1, other as u64, moved]) {
+            *count += more;
+        }
+    }
+
     /// The jobs of a call by their numbers.
     fn add_jobs(&mut self, call: &Call, o: &Outcome, single: &Report) {
         self.jobs += call.jobs as u64;
-        for (k, (run, held)) in o.runs.iter().zip(&o.waited).enumerate() {
+        for (k, (run, beyond)) in o.runs.iter().zip(&o.beyond).enumerate() {
             match single.words[NUMBER][k] {
                 cause @ (BEHIND | REJECTED | 11) => self.numbers.add(&format!("cause {}", cause)),
                 _ => self.numbers.add(&run.outcome()),
             }
-            self.answered += (run.refusal == 0 && *held == 0) as u64;
-            self.waited += (*held != 0) as u64;
+            self.answered += (run.refusal == 0 && beyond.none()) as u64;
+            self.waited += (beyond.held != 0) as u64;
         }
     }
 
@@ -202,6 +222,11 @@ impl Counts {
                 doubtful, other, self.waited
             );
         }
+        let [on, other, moved] = self.first;
+        println!(
+            "  calls that run with pattern_first on {}, of these answered in another way with it off {}; jobs with a pattern that it moves {}",
+            on, other, moved
+        );
         let told: Vec<String> = kind.slips.iter().zip(&self.told).map(|(s, n)| format!("{:?} {}", s, n)).collect();
         println!("  so many calls would tell a wrong reading: {}", told.join(", "));
         for (side, name) in SIDES.iter().enumerate() {
@@ -302,11 +327,13 @@ fn explain(kind: &Kind, seed: u64, place: u64) {
 
 fn tell(call: &Call) -> u64 {
     println!(
-        "  jobs {}, nodes {}, sources {}, unknown {}, sheets of {} bytes, points of {} bytes, tolerances {:?}, floats lent {:?}, words lent {:?}",
+        "  jobs {}, nodes {}, sources {}, unknown {}, catchup {}, pattern_first {}, sheets of {} bytes, points of {} bytes, tolerances {:?}, floats lent {:?}, words lent {:?}",
         call.jobs,
         call.nodes,
         call.sources,
         call.unknown,
+        call.options.catchup,
+        call.options.pattern_first,
         call.sheets.len(),
         call.points.len(),
         call.tolerances,

@@ -1,6 +1,7 @@
 //! Asks the published Rust's element models and writes what they answer, in the form that crates/models_replay reads.
 //! An entry is a row of eight-byte little-endian numbers:
 //!   patterns    first, count, t_delay, repeat, t, level, then six points of time and level
+//!   patterns_first  the same by the rule of the option pattern_first, which the Rust has not: its sentences are written out here
 //!   capacitors  value, v_prev, t_delta, g, i
 //!   diodes      gmin, boltzmann, charge, i_sat, tdegc, v_hat, v_d_prev, verdict, g, i, memory
 //!   sines       vo, va, freq, t, verdict, level
@@ -63,6 +64,7 @@ use std::fs;
 use std::panic;
 
 const PATTERNS: usize = 1200;
+const PATTERNS_FIRST: usize = 900;
 const CAPACITORS: usize = 600;
 const DIODES: usize = 1000;
 const SINES: usize = 600;
@@ -154,22 +156,79 @@ impl Source {
 
 // ---- patterns
 
-fn pattern(first: usize, count: usize, delay: f64, repeat: f64, t: f64, points: &[(f64, f64); 6]) -> Row {
+/// A way to make a row: first, count, delay, repeat, time and points.
+type Made = fn(usize, usize, f64, f64, f64, &[(f64, f64); 6]) -> Row;
+
+fn source(first: usize, count: usize, delay: f64, repeat: f64, points: &[(f64, f64); 6]) -> vpwl::VoltageSourcePwl {
     let at = |k: usize| if k < 6 { points[k] } else { (0.0, 0.0) };
-    let source = vpwl::VoltageSourcePwl {
+    vpwl::VoltageSourcePwl {
         p: 0,
         n: 0,
         pat: (first..first + count).map(at).collect(),
         t_delay: delay,
         repeat: repeat,
         idx: 0,
-    };
-    let row = Row::new().count(first as u64).count(count as u64).floats(&[delay, repeat, t, source.evaluate(t)]);
+    }
+}
+
+fn row(first: usize, count: usize, numbers: &[f64; 4], points: &[(f64, f64); 6]) -> Row {
+    let row = Row::new().count(first as u64).count(count as u64).floats(numbers);
     points.iter().fold(row, |r, p| r.floats(&[p.0, p.1]))
 }
 
+fn pattern(first: usize, count: usize, delay: f64, repeat: f64, t: f64, points: &[(f64, f64); 6]) -> Row {
+    let level = source(first, count, delay, repeat, points).evaluate(t);
+    row(first, count, &[delay, repeat, t, level], points)
+}
+
+/// With the option on: the request's sentences in their order, then the Rust.
+fn pattern_first(first: usize, count: usize, delay: f64, repeat: f64, t: f64, points: &[(f64, f64); 6]) -> Row {
+    let s = source(first, count, delay, repeat, points);
+    let level = if count == 0 || t < delay {
+        0.0
+    } else {
+        let (start, end) = (s.pat[0], s.pat[count - 1]);
+        if repeat < 0.0 && t >= delay + end.0 {
+            end.1
+        } else if count == 1 || !((t - delay) % end.0 > start.0) {
+            start.1
+        } else {
+            s.evaluate(t)
+        }
+    };
+    row(first, count, &[delay, repeat, t, level], points)
+}
+
+/// What the option is about: first points away from zero, single points, delays, ends as sums, last times of 0 and below.
+fn known_first() -> Vec<Row> {
+    let z = (0.0, 0.0);
+    let mut rows = known_patterns(pattern_first);
+    let lists = [
+        (2, [(0.0, 3.0), (1.0, 4.0), z, z, z, z]),
+        (2, [(1.0, 3.0), (2.0, 5.0), z, z, z, z]),
+        (3, [(1.0, 3.0), (0.0, 5.0), (2.0, 7.0), z, z, z]),
+        (2, [(-2.0, 3.0), (-1.0, 5.0), z, z, z, z]),
+        (2, [(-1.0, 3.0), (0.0, 5.0), z, z, z, z]),
+        (1, [(1.0, 7.0), z, z, z, z, z]),
+        (1, [(-2.0, 7.0), z, z, z, z, z]),
+        (1, [(f64::NAN, 7.0), z, z, z, z, z]),
+    ];
+    for &(count, points) in &lists {
+        for &repeat in &[-1.0, 1.0] {
+            for &(delay, t) in &[(0.0, 0.0), (0.0, 0.5), (0.0, 2.0), (0.0, 2.5), (1.0, 0.5), (1.0, 1.0), (1.0, 3.0), (f64::NAN, 0.5)] {
+                rows.push(pattern_first(0, count, delay, repeat, t, &points));
+            }
+        }
+    }
+    let sum = [(0.0, 3.0), (1.4, 4.0), z, z, z, z];
+    for &bits in &[0x3ffc_a3d7_0a3d_70a3, 0x3ffc_a3d7_0a3d_70a4] {
+        rows.push(pattern_first(0, 2, 0.39, -1.0, f64::from_bits(bits), &sum));
+    }
+    rows
+}
+
 /// Cases g and h, and the ends that a pattern seldom meets.
-fn known_patterns() -> Vec<Row> {
+fn known_patterns(pattern: Made) -> Vec<Row> {
     let z = (0.0, 0.0);
     let ramp = [(0.0, 0.0), (1.0, 4.0), z, z, z, z];
     let high = [(0.0, 3.0), (1.0, 4.0), z, z, z, z];
@@ -191,6 +250,14 @@ fn known_patterns() -> Vec<Row> {
 }
 
 fn some_pattern(s: &mut Source) -> Row {
+    drawn(s, pattern)
+}
+
+fn some_first(s: &mut Source) -> Row {
+    drawn(s, pattern_first)
+}
+
+fn drawn(s: &mut Source, pattern: Made) -> Row {
     let wild = s.below(4);
     let mut points = [(0.0, 0.0); 6];
     let mut t = if s.below(2) == 0 { 0.0 } else { s.between(0.0, 1.0) };
@@ -357,7 +424,8 @@ fn filled(mut rows: Vec<Row>, n: usize, seed: u64, one: fn(&mut Source) -> Row) 
 fn main() {
     panic::set_hook(Box::new(|_| {}));
     let folder = std::env::args().nth(1).expect("the folder to write to");
-    write(&folder, "patterns", filled(known_patterns(), PATTERNS, 1, some_pattern));
+    write(&folder, "patterns", filled(known_patterns(pattern), PATTERNS, 1, some_pattern));
+    write(&folder, "patterns_first", filled(known_first(), PATTERNS_FIRST, 5, some_first));
     write(&folder, "capacitors", filled(vec![capacitor(1.0, 3.0, 0.5)], CAPACITORS, 2, some_capacitor));
     write(&folder, "diodes", filled(known_diodes(), DIODES, 3, some_diode));
     write(&folder, "sines", filled(known_sines(), SINES, 4, some_sine));

@@ -16,11 +16,16 @@ pub const DIODES: u8 = 2;
 
 pub const SINES: u8 = 3;
 
+pub const PATTERNS_FIRST: u8 = 4;
+
 // The bytes of an entry.
 pub fn size_of(kind: u8) -> usize
     ensures { λ r. ⌜ r ≤ 144 ⌝ }
 {
     if kind == PATTERNS {
+        return 144;
+    }
+    if kind == PATTERNS_FIRST {
         return 144;
     }
     if kind == CAPACITORS {
@@ -36,6 +41,9 @@ pub fn size_of(kind: u8) -> usize
 pub fn is_right(e: &[u8], kind: u8) -> bool {
     if kind == PATTERNS {
         return pattern_right(e);
+    }
+    if kind == PATTERNS_FIRST {
+        return pattern_first_right(e);
     }
     if kind == CAPACITORS {
         return capacitor_right(e);
@@ -54,6 +62,24 @@ fn pattern_right(e: &[u8]) -> bool {
     let first = u64_at(e, 0) as usize;
     let count = u64_at(e, 8) as usize;
     let level = models::vpwl::evaluate(
+        &e[48..],
+        first,
+        count,
+        f64_at(e, 16),
+        f64_at(e, 24),
+        f64_at(e, 32),
+    );
+    same(level, f64_at(e, 40))
+}
+
+// The same entry, answered as with the option pattern_first on.
+fn pattern_first_right(e: &[u8]) -> bool {
+    if e.len() < 48 {
+        return false;
+    }
+    let first = u64_at(e, 0) as usize;
+    let count = u64_at(e, 8) as usize;
+    let level = models::vpwl::evaluate_first(
         &e[48..],
         first,
         count,

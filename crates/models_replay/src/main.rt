@@ -14,6 +14,7 @@ struct Tally {
 
 fn main() {
     replay(b"patterns", entry::PATTERNS);
+    replay(b"patterns_first", entry::PATTERNS_FIRST);
     replay(b"capacitors", entry::CAPACITORS);
     replay(b"diodes", entry::DIODES);
     replay(b"sines", entry::SINES);
