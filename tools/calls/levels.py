@@ -9,9 +9,9 @@ from files import LEVELS
 
 def over(a, b):
     """a / b as IEEE 754 has it."""
-    if b != 0.0 or a != a:
-        return a / b if b != 0.0 else a
-    return math.nan if a == 0.0 else math.copysign(math.inf, a) * math.copysign(1.0, b)
+    if b != 0.0:
+        return a / b
+    return math.nan if a == 0.0 or a != a else math.copysign(math.inf, a) * math.copysign(1.0, b)
 
 
 def cycle(t, length):
