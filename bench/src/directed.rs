@@ -6,7 +6,7 @@ use crate::first;
 use crate::job::*;
 use crate::model::{self, Wrong, WRONG, WRONG_BEHIND, WRONG_PATTERN, WRONG_WORD};
 use crate::oracle::plain;
-use crate::sides::{self, MUST_AGREE, OURS, PAIRS};
+use crate::sides::{self, Outcome, MUST_AGREE, OURS, PAIRS};
 use crate::waiting;
 
 /// A job made record by record.
@@ -677,43 +677,72 @@ pub fn show_all() -> u64 {
     0
 }
 
+/// What is amiss with a job: sides that differ, or another answer than it must have.
+fn amiss(d: &Directed, o: &Outcome) -> Vec<String> {
+    let mut list = Vec::new();
+    for p in 0..MUST_AGREE {
+        for x in o.pairs[p].iter().flatten().take(5) {
+            list.push(format!("{}: {}", PAIRS[p], show(x)));
+        }
+    }
+    if !meets(d, &o.answer) {
+        list.push(format!(
+            "expected otherwise: verdict {}, passes {}, diode behind {:?}, vector {:?}",
+            o.answer.verdict, o.answer.passes, o.answer.behind, o.answer.buffers[VECTOR]
+        ));
+    }
+    list
+}
+
+/// The wrong readings that the jobs tell apart.
+#[derive(Default)]
+struct Told {
+    readings: Vec<Wrong>,
+    /// Jobs about document 01 that tell one, and those of them inside the domain of demand 2.
+    jobs: u64,
+    domain: u64,
+}
+
+impl Told {
+    /// Notes the reading that a job is there for, if there is one; false where the job does not tell it.
+    fn add(&mut self, d: &Directed, o: &Outcome) -> bool {
+        if d.tells == Wrong::Nothing {
+            return true;
+        }
+        let other = model::run(&d.job, &OURS, d.tells);
+        if compare(&d.job, &other, &o.answer, ALL).is_empty() {
+            return false;
+        }
+        self.readings.push(d.tells);
+        if WRONG.iter().any(|w| w.0 == d.tells) {
+            self.jobs += 1;
+            self.domain += o.domain as u64;
+            if !o.domain {
+                println!("  outside the domain: {} ({})", d.name, o.answer.outcome());
+            }
+        }
+        true
+    }
+
+    /// Says how many readings of a list are told; answers how many are not.
+    fn untold(&self, about: &str, list: &[(Wrong, &str)]) -> u64 {
+        let told = list.iter().filter(|w| self.readings.contains(&w.0)).count();
+        println!("  of {}: {} of {} wrong readings", about, told, list.len());
+        (list.len() - told) as u64
+    }
+}
+
 /// Runs them all; answers how many are amiss.
 pub fn run() -> u64 {
     let list: Vec<Directed> = all().into_iter().chain(budgets()).chain(waiting::all()).chain(first::all()).collect();
     let calls = first::run_calls();
     let mut bad = 0;
-    let (mut told, mut domain) = (0, 0);
-    let (mut waited, mut patterns) = (Vec::new(), Vec::new());
-    let of = |list: &[(Wrong, &str)], wrong: Wrong| list.iter().any(|w| w.0 == wrong);
+    let mut told = Told::default();
     for d in &list {
         let o = sides::run(&d.job);
-        let mut amiss = Vec::new();
-        for p in 0..MUST_AGREE {
-            for x in o.pairs[p].iter().flatten().take(5) {
-                amiss.push(format!("{}: {}", PAIRS[p], show(x)));
-            }
-        }
-        if !meets(d, &o.answer) {
-            amiss.push(format!(
-                "expected otherwise: verdict {}, passes {}, diode behind {:?}, vector {:?}",
-                o.answer.verdict, o.answer.passes, o.answer.behind, o.answer.buffers[VECTOR]
-            ));
-        }
-        if d.tells != Wrong::Nothing {
-            let other = model::run(&d.job, &OURS, d.tells);
-            if compare(&d.job, &other, &o.answer, ALL).is_empty() {
-                amiss.push("does not tell its wrong reading apart".to_string());
-            } else if of(WRONG_BEHIND, d.tells) {
-                waited.push(d.tells);
-            } else if of(WRONG_PATTERN, d.tells) || of(WRONG_WORD, d.tells) {
-                patterns.push(d.tells);
-            } else {
-                told += 1;
-                domain += o.domain as u64;
-                if !o.domain {
-                    println!("  outside the domain: {} ({})", d.name, o.answer.outcome());
-                }
-            }
+        let mut amiss = amiss(d, &o);
+        if !told.add(d, &o) {
+            amiss.push("does not tell its wrong reading apart".to_string());
         }
         if !amiss.is_empty() {
             bad += 1;
@@ -727,26 +756,27 @@ pub fn run() -> u64 {
         println!("the exact judge fails document 01's cases k and l");
         bad += 1;
     }
+    run_twice();
+    println!(
+        "directed: {} jobs, {} amiss; {} wrong readings told apart, {} of them inside the domain of demand 2",
+        list.len(),
+        bad,
+        told.jobs,
+        told.domain
+    );
+    bad += told.untold("diodes that are behind and of waiting", WRONG_BEHIND);
+    bad += told.untold("patterns that start away from zero", &[WRONG_PATTERN, WRONG_WORD].concat());
+    bad + calls
+}
+
+/// Shows the first run of a job by the Rust, and a second by the same engine.
+fn run_twice() {
     let twice = Build::dc(2, 0).r(1, 0, 1.0).isin(0, 1, 1.0, 0.0, 0.0).job();
     let (first, second) = (plain::run(&twice).1, plain::second_time(&twice));
     println!(
         "directed: 1 A into 1 ohm by an Isin: the Rust's first run gives {} V, the same engine's second {} V",
         first[1], second[1]
     );
-    println!(
-        "directed: {} jobs, {} amiss; {} wrong readings told apart, {} of them inside the domain of demand 2",
-        list.len(),
-        bad,
-        told,
-        domain
-    );
-    let readings = WRONG_BEHIND.iter().filter(|w| waited.contains(&w.0)).count();
-    println!("  of diodes that are behind and of waiting: {} of {} wrong readings", readings, WRONG_BEHIND.len());
-    bad += (WRONG_BEHIND.len() - readings) as u64;
-    let of_patterns = || WRONG_PATTERN.iter().chain(WRONG_WORD);
-    let readings = of_patterns().filter(|w| patterns.contains(&w.0)).count();
-    println!("  of patterns that start away from zero: {} of {} wrong readings", readings, of_patterns().count());
-    bad + calls + (of_patterns().count() - readings) as u64
 }
 
 /// Looks among random jobs for the smallest that tells a wrong reading apart, inside the domain.

@@ -44,8 +44,13 @@ fn case(
     Case { name, points, delay, repeat, levels }
 }
 
-#[rustfmt::skip]
 fn table() -> Vec<Case> {
+    cases_g_and_h().into_iter().chain(other_cases()).collect()
+}
+
+/// Cases g and h, and these with other delays, repeats and times.
+#[rustfmt::skip]
+fn cases_g_and_h() -> Vec<Case> {
     vec![
         case("case g", G, 0.0, -1.0, &[(0.0, 0.0, 0.0), (0.5, 2.0, 2.0), (1.0, 4.0, 0.0), (2.0, 4.0, 4.0), (-0.5, 0.0, 0.0)]),
         case("case h", H, 0.0, -1.0, &[(0.0, 3.0, NAN), (0.5, 3.5, 3.5), (1.0, 4.0, NAN), (2.0, 4.0, 4.0), (-0.5, 0.0, 0.0)]),
@@ -63,6 +68,13 @@ fn table() -> Vec<Case> {
         case("case h, delay 0.25, repeat 1", H, 0.25, 1.0, &[(0.25, 3.0, NAN), (0.5, 3.25, 3.25), (1.25, 3.0, NAN), (1.5, 3.25, 3.25)]),
         case("case h, delay NaN", H, NAN, -1.0, &[(0.0, 3.0, NAN), (5.0, 3.0, NAN)]),
         case("case h, an infinite delay", H, f64::INFINITY, -1.0, &[(0.0, 0.0, NAN), (5.0, 0.0, NAN), (f64::INFINITY, 4.0, NAN)]),
+    ]
+}
+
+/// Points that are later or earlier, few, out of order or odd.
+#[rustfmt::skip]
+fn other_cases() -> Vec<Case> {
+    vec![
         case("a later first point", LATER, 0.0, -1.0, &[(0.0, 3.0, 0.0), (0.5, 3.0, 1.5), (1.0, 3.0, 3.0), (1.5, 4.0, 4.0), (2.0, 5.0, 0.0), (3.0, 5.0, 5.0)]),
         case("a later first point, repeat 1", LATER, 0.0, 1.0, &[(2.0, 3.0, 0.0), (2.5, 3.0, 1.5), (3.0, 3.0, 3.0), (3.5, 4.0, 4.0), (4.0, 3.0, 0.0)]),
         case("an earlier first point", &[(-1.0, 2.0), (1.0, 4.0)], 0.0, -1.0, &[(0.0, 3.0, 3.0), (0.5, 3.5, 3.5), (1.0, 4.0, 3.0)]),
@@ -191,8 +203,8 @@ fn bias() -> Build {
 }
 
 /// A saw of period 1 in steps of a quarter.
-fn saw() -> Build {
-    Build::transient(2, 1, 1.5).vpwl(1, 0, H, 1.0, 0).r(1, 0, 1.0).set(|o| o.tstep = 0.25)
+fn saw(delay: f64) -> Build {
+    Build::transient(2, 1, 1.5).vpwl(1, 0, H, 1.0, 0).delayed(delay).r(1, 0, 1.0).set(|o| o.tstep = 0.25)
 }
 
 /// 5 V from the start, 1 kOhm and a diode: with both options on the run waits for the diode.
@@ -204,7 +216,20 @@ fn both(o: &mut Options) {
     (o.catchup, o.pattern_first) = (1, 1)
 }
 
+/// 25 V from the start across a diode whose current overflows.
+fn overflowing() -> Build {
+    Build::dc(2, 1).vpwl(1, 0, &[(0.0, 25.0), (1.0, 25.0)], -1.0, 0).d(1, 0, 1e-320, 27.0)
+}
+
+type Run = (&'static str, Job, Option<Expected>);
+
 fn runs() -> Vec<Named> {
+    let list = shapes().into_iter().chain(endings()).chain(diodes()).chain(limits());
+    list.map(|(name, job, expected)| (name.to_string(), job, expected)).collect()
+}
+
+/// Ramps and saws, one or two at a time.
+fn shapes() -> Vec<Run> {
     let quarter = |k: u64| (k as f64 * 0.25, [3.0, 3.25, 3.5, 3.75][k as usize % 4]);
     let mut saws: Vec<(f64, f64)> = (0..7).map(quarter).collect();
     saws.push((1.5, 3.75));
@@ -213,21 +238,12 @@ fn runs() -> Vec<Named> {
     let two = |b: Build| {
         b.vpwl(1, 0, LATER, -1.0, 0).vpwl(2, 0, LATER, 1.0, 1).delayed(0.5).r(1, 2, 1.0).r(2, 3, 2.0).r(3, 0, 1.0)
     };
-    let list: Vec<(&str, Job, Option<Expected>)> = vec![
+    vec![
         ("a bias ramp, on", on(bias().job()), rows(&ramp)),
         ("a bias ramp, off", bias().job(), rows(&before)),
-        ("a saw, on", on(saw().job()), rows(&saws)),
-        ("a saw, off", saw().job(), None),
-        (
-            "a saw, delay 0.5, on",
-            on(Build::transient(2, 1, 1.5)
-                .vpwl(1, 0, H, 1.0, 0)
-                .delayed(0.5)
-                .r(1, 0, 1.0)
-                .set(|o| o.tstep = 0.25)
-                .job()),
-            None,
-        ),
+        ("a saw, on", on(saw(0.0).job()), rows(&saws)),
+        ("a saw, off", saw(0.0).job(), None),
+        ("a saw, delay 0.5, on", on(saw(0.5).job()), None),
         ("two patterns, one delayed, on, DC", on(two(Build::dc(4, 2)).job()), None),
         ("two patterns, one delayed, on", on(two(Build::transient(4, 2, 5.0)).job()), None),
         ("two patterns, one delayed, off", two(Build::transient(4, 2, 5.0)).job(), None),
@@ -236,26 +252,36 @@ fn runs() -> Vec<Named> {
             on(Build::dc(3, 2).vpwl(1, 0, H, -1.0, 0).vpwl(2, 0, LATER, -1.0, 0).r(1, 2, 1.0).job()),
             None,
         ),
+    ]
+}
+
+/// A ramp in steps that grow or are cut, and runs of it that end early.
+fn endings() -> Vec<Run> {
+    vec![
         ("steps that grow past points, on", on(bias().set(|o| (o.itl3, o.rmax, o.tstep) = (6, 4.0, 0.25)).job()), None),
         ("a step that is cut, on", on(bias().set(|o| (o.itl4, o.ft, o.rmin) = (1, 0.5, 0.1)).job()), None),
         ("a step too small, on", on(bias().set(|o| (o.itl4, o.ft, o.rmin) = (1, 0.5, 0.9)).job()), None),
         ("budget spent, on", on(bias().set(|o| o.budget = 5).job()), None),
         ("no room, on", on(bias().rows(2).job()), None),
         ("ITL1 0, on", on(bias().set(|o| o.itl1 = 0).job()), None),
+    ]
+}
+
+/// A diode that is behind, by either option and by both, and one whose current overflows.
+fn diodes() -> Vec<Run> {
+    vec![
         ("a diode is behind, pattern_first on", on(clamped(Build::dc(3, 1)).job()), None),
         ("a diode is waited for, both on", clamped(Build::dc(3, 1)).set(both).job(), None),
         ("the same in a transient", clamped(Build::transient(3, 1, 2.0)).set(both).job(), None),
         ("catchup on, pattern_first off", clamped(Build::dc(3, 1)).set(|o| o.catchup = 1).job(), None),
-        (
-            "22 by a first level, on",
-            on(Build::dc(2, 1).vpwl(1, 0, &[(0.0, 25.0), (1.0, 25.0)], -1.0, 0).d(1, 0, 1e-320, 27.0).job()),
-            None,
-        ),
-        (
-            "the same off",
-            Build::dc(2, 1).vpwl(1, 0, &[(0.0, 25.0), (1.0, 25.0)], -1.0, 0).d(1, 0, 1e-320, 27.0).job(),
-            None,
-        ),
+        ("22 by a first level, on", on(overflowing().job()), None),
+        ("the same off", overflowing().job(), None),
+    ]
+}
+
+/// Odd levels and steps, runs without a pattern, and calls that are refused or just not.
+fn limits() -> Vec<Run> {
+    vec![
         (
             "an infinite first level with a source behind, on",
             on(behind_it(&[(0.0, f64::INFINITY), (1.0, 4.0)], 0.0, -1.0, 0.0)),
@@ -279,13 +305,16 @@ fn runs() -> Vec<Named> {
             None,
         ),
         ("refused by its budget, by the largest word", by(bias().set(|o| o.budget = 0).job(), u64::MAX), None),
-    ];
-    list.into_iter().map(|(name, job, expected)| (name.to_string(), job, expected)).collect()
+    ]
 }
 
-/// Jobs for each wrong reading.
+/// A pattern alone with the option on.
+fn at(points: &[(f64, f64)], delay: f64, repeat: f64, t: f64) -> Job {
+    on(alone(points, delay, repeat, t))
+}
+
+/// Jobs for each wrong reading of the rule.
 fn tellers() -> Vec<(Wrong, Job)> {
-    let at = |points: &[(f64, f64)], delay: f64, repeat: f64, t: f64| on(alone(points, delay, repeat, t));
     let below = [(-2.0, 3.0), (-1.0, 5.0)];
     vec![
         (Wrong::FirstSingleBeforeDelay, at(&[(1.0, 7.0)], 1.0, -1.0, 0.0)),
@@ -329,6 +358,12 @@ fn tellers() -> Vec<(Wrong, Job)> {
         (Wrong::FirstCycleWithoutDelay, at(H, 0.25, 1.0, 0.5)),
         (Wrong::FirstPastAllHeld, at(&below, -0.5, 1.0, 0.0)),
         (Wrong::FirstPastAllHeld, at(&below, 0.0, 1.0, 0.5)),
+    ]
+}
+
+/// Jobs for each wrong reading of the option's word.
+fn word_tellers() -> Vec<(Wrong, Job)> {
+    vec![
         (Wrong::FirstInTransientOnly, at(H, 0.0, -1.0, 0.0)),
         (Wrong::FirstInTransientOnly, on(bias().job())),
         (Wrong::FirstInDcOnly, at(G, 0.0, -1.0, 1.0)),
@@ -350,7 +385,7 @@ fn tellers() -> Vec<(Wrong, Job)> {
 pub fn all() -> Vec<Directed> {
     let named = |(name, job, expected): Named| Directed { name, job, expected, tells: Wrong::Nothing };
     let mut list: Vec<Directed> = evaluations().into_iter().chain(words()).chain(runs()).map(named).collect();
-    for (wrong, job) in tellers() {
+    for (wrong, job) in tellers().into_iter().chain(word_tellers()) {
         let text = WRONG_PATTERN.iter().chain(WRONG_WORD).find(|w| w.0 == wrong).unwrap().1;
         list.push(Directed { name: format!("not: {}", text), job, expected: None, tells: wrong });
     }

@@ -89,9 +89,7 @@ impl<'a> Maker<'a> {
     fn pattern(&mut self) -> (usize, usize) {
         // sometimes the points of an earlier source again
         if !self.points.is_empty() && self.r.one_in(4) {
-            let first = self.r.below(self.points.len() + 1);
-            let count = self.r.below(self.points.len() - first + 1);
-            return (first, count);
+            return part(self.r, self.points.len());
         }
         let first = self.points.len();
         let count = match self.r.below(10) {
@@ -191,6 +189,12 @@ impl<'a> Maker<'a> {
         }
         e
     }
+}
+
+/// The first of some points that follow each other, of so many that there are, and their count.
+fn part(r: &mut Random, points: usize) -> (usize, usize) {
+    let first = r.below(points + 1);
+    (first, r.below(points - first + 1))
 }
 
 /// Every node stands in a record: a bare one gets a resistor.
@@ -411,16 +415,38 @@ fn patterns(r: &mut Random, job: &mut Job, times: &[f64]) {
 
 /// A pattern that starts away from zero, its points and ends among the times given; the points are added to those there are.
 pub fn away(r: &mut Random, times: &[f64], points: &mut Vec<(f64, f64)>) -> Pattern {
+    let delay = away_delay(r, times);
+    let repeat = away_repeat(r);
+    // sometimes points of an earlier one again
+    if !points.is_empty() && r.one_in(6) {
+        let (first, count) = part(r, points.len());
+        return Pattern { first, count, delay, repeat };
+    }
+    let first = points.len();
+    away_points(r, times, points);
+    let count = points.len() - first;
+    if count > 0 {
+        away_end(r, times, delay, &mut points[first..]);
+    }
+    Pattern { first, count, delay, repeat }
+}
+
+/// Often none, or a time that a step meets.
+fn away_delay(r: &mut Random, times: &[f64]) -> f64 {
     let step = times[1];
-    let delay = match r.below(12) {
+    match r.below(12) {
         0..=4 => 0.0,
         5 => -0.0,
         6..=8 => times[1 + r.below(4)],
         9 => r.pick(&[f64::NAN, -step, step * 0.5, -0.5]),
         10 => step * r.between(0.0, 3.0),
         _ => r.any(),
-    };
-    let repeat = match r.below(12) {
+    }
+}
+
+/// Mostly below 0 or above it, else at the edge between them.
+fn away_repeat(r: &mut Random) -> f64 {
+    match r.below(12) {
         0..=4 => -1.0,
         5 | 6 => 1.0,
         7 => 0.0,
@@ -428,14 +454,12 @@ pub fn away(r: &mut Random, times: &[f64], points: &mut Vec<(f64, f64)>) -> Patt
         9 => f64::NAN,
         10 => r.pick(&[-5e-324, 5e-324, f64::NEG_INFINITY]),
         _ => r.any(),
-    };
-    // sometimes points of an earlier one again
-    if !points.is_empty() && r.one_in(6) {
-        let first = r.below(points.len() + 1);
-        let count = r.below(points.len() - first + 1);
-        return Pattern { first, count, delay, repeat };
     }
-    let first = points.len();
+}
+
+/// None to six points, mostly a step apart and rising.
+fn away_points(r: &mut Random, times: &[f64], points: &mut Vec<(f64, f64)>) {
+    let step = times[1];
     let count = match r.below(12) {
         0 => 0,
         1 | 2 => 1,
@@ -470,18 +494,19 @@ pub fn away(r: &mut Random, times: &[f64], points: &mut Vec<(f64, f64)>) -> Patt
             _ => times[r.below(8)],
         };
     }
-    if count > 0 {
-        let start = points[first].0;
-        let last = &mut points[first + count - 1].0;
-        match r.below(12) {
-            0 => *last = r.pick(&[0.0, -0.0, start]),
-            1 => *last = -step * r.unit(),
-            2 | 3 => *last = times[1 + r.below(8)] - delay,
-            4 if r.one_in(3) => *last = r.special(),
-            _ => {}
-        }
+}
+
+/// Another last time now and then: 0, below 0, the first one's, one that is odd, or one that puts the end at a step.
+fn away_end(r: &mut Random, times: &[f64], delay: f64, points: &mut [(f64, f64)]) {
+    let start = points[0].0;
+    let last = &mut points[points.len() - 1].0;
+    match r.below(12) {
+        0 => *last = r.pick(&[0.0, -0.0, start]),
+        1 => *last = -times[1] * r.unit(),
+        2 | 3 => *last = times[1 + r.below(8)] - delay,
+        4 if r.one_in(3) => *last = r.special(),
+        _ => {}
     }
-    Pattern { first, count, delay, repeat }
 }
 
 /// The option on: any word but 0.

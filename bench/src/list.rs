@@ -8,7 +8,7 @@ use crate::first;
 use crate::form::{file, read_file, Form};
 use crate::generate;
 use crate::job::*;
-use crate::model::{self, Wrong};
+use crate::model::{self, Beyond, Wrong};
 use crate::oracle::hooked;
 use crate::sides::{self, MUST_AGREE, OURS, PAIRS};
 use crate::tally::Tally;
@@ -65,42 +65,90 @@ fn tighten(job: &mut Job, a: &Answer) {
     }
 }
 
+/// A job that a list may take, lending few rows, with what the model says of it.
+struct Candidate {
+    job: Job,
+    answer: Answer,
+    beyond: Beyond,
+}
+
+impl Candidate {
+    /// None where it lends too much, which no directed job may.
+    fn new(mut job: Job, directed: bool) -> Option<Candidate> {
+        let (answer, beyond) = model::run_beyond(&job, &OURS, Wrong::Nothing);
+        tighten(&mut job, &answer);
+        let large = job.lengths.iter().zip(MOST_LENT).any(|(l, most)| *l > most);
+        assert!(!(directed && large), "a directed job lends too much: {}", describe(&job));
+        (!large).then_some(Candidate { job, answer, beyond })
+    }
+
+    /// Its ending, with a word behind it where such jobs are counted apart.
+    fn class(&self, apart: bool, word: &str) -> String {
+        format!("{}{}", quota(&self.job, &self.answer).0, if apart { word } else { "" })
+    }
+}
+
+/// The jobs taken with their answers, and how many there are of each class.
+#[derive(Default)]
+struct Taken {
+    list: Vec<(Job, Option<Answer>)>,
+    classes: Tally,
+}
+
+impl Taken {
+    fn put(&mut self, job: Job) {
+        let a = answer(&job);
+        self.list.push((job, Some(a)));
+    }
+
+    /// Takes a job while there are fewer of its class than these; a directed one always. Says whether it did.
+    fn take(&mut self, c: Candidate, class: &str, most: u64, directed: bool) -> bool {
+        let taken = directed || self.classes.get(class) < most;
+        if taken {
+            self.classes.add(class);
+            self.put(c.job);
+        }
+        taken
+    }
+
+    fn write(&self, seed: u64, path: &str, form: Form) {
+        let bytes = file(form, &self.list);
+        println!("{}: {} jobs, {} bytes, seed {}; {}", path, self.list.len(), bytes.len(), seed, stored(path, &bytes));
+    }
+}
+
+/// Mostly jobs of few unknowns and no more records than these; a larger one now and then.
+fn small(job: &Job, place: u64, records: usize) -> bool {
+    let unknowns = job.nodes.saturating_add(job.sources);
+    unknowns <= 5 && job.sheet.len() <= records * RECORD || unknowns <= 12 && place % 40 == 0
+}
+
 /// Writes the list made from a seed.
 pub fn write(seed: u64, path: &str, form: Form) -> u64 {
-    let mut list = Vec::new();
-    let mut classes = Tally::default();
-    let mut outcomes = Tally::default();
-    let mut take = |mut job: Job, classes: &mut Tally, always: bool| {
-        let first = model::run(&job, &OURS, Wrong::Nothing);
-        let (key, most) = quota(&job, &first);
-        tighten(&mut job, &first);
-        let large = job.lengths.iter().zip(MOST_LENT).any(|(l, most)| *l > most);
-        if !always && (classes.get(&key) >= most || large) {
-            return;
+    let mut taken = Taken::default();
+    let mut take = |job: Job, directed: bool| {
+        if let Some(c) = Candidate::new(job, directed) {
+            let (class, most) = quota(&c.job, &c.answer);
+            taken.take(c, &class, most, directed);
         }
-        assert!(!large, "a directed job lends too much: {}", describe(&job));
-        classes.add(&key);
-        let a = answer(&job);
-        outcomes.add(&a.outcome());
-        list.push((job, Some(a)));
     };
     for d in directed::all() {
-        take(d.job, &mut classes, true);
+        take(d.job, true);
     }
     for place in 0..400_000 {
         let (job, _) = generate::job(seed, place);
         let unknowns = job.nodes.saturating_add(job.sources);
-        // mostly small ones; a large one now and then, among the first
-        let small = unknowns <= 5 && job.sheet.len() <= 9 * RECORD
-            || job.sheet.len() <= 12 * RECORD && model::refusal(&job).0 != 0;
-        if small || (unknowns <= 12 && place % 40 == 0) || (unknowns <= 48 && place < 4_000 && place % 60 == 0) {
-            take(job, &mut classes, false);
+        let refused = job.sheet.len() <= 12 * RECORD && model::refusal(&job).0 != 0;
+        // a large one now and then, among the first
+        if small(&job, place, 9) || refused || (unknowns <= 48 && place < 4_000 && place % 60 == 0) {
+            take(job, false);
         }
     }
-    let bytes = file(form, &list);
-    println!("{}: {} jobs, {} bytes, seed {}; {}", path, list.len(), bytes.len(), seed, stored(path, &bytes));
+    let mut outcomes = Tally::default();
+    taken.list.iter().filter_map(|(_, a)| a.as_ref()).for_each(|a| outcomes.add(&a.outcome()));
+    taken.write(seed, path, form);
     println!("  {}", outcomes.line());
-    println!("  {}", classes.line());
+    println!("  {}", taken.classes.line());
     0
 }
 
@@ -121,22 +169,14 @@ const NOT_WAITING: u64 = 6;
 
 /// Writes the jobs about diodes that are behind: the directed ones, then random ones with the option on, in form 2.
 pub fn write_waiting(seed: u64, path: &str) -> u64 {
-    let mut list: Vec<(Job, Option<Answer>)> = Vec::new();
-    let mut classes = Tally::default();
+    let mut taken = Taken::default();
     let mut held_back = 0;
-    let mut take = |mut job: Job, always: bool| {
-        let (first, beyond) = model::run_beyond(&job, &OURS, Wrong::Nothing);
-        let held = beyond.held;
-        let key = format!("{}{}", quota(&job, &first).0, if held > 0 { ", waits" } else { "" });
-        tighten(&mut job, &first);
-        let large = job.lengths.iter().zip(MOST_LENT).any(|(l, most)| *l > most);
-        assert!(!(always && large), "a directed job lends too much: {}", describe(&job));
-        let most = if held > 0 { WAITING } else { NOT_WAITING };
-        if always || !large && classes.get(&key) < most {
-            classes.add(&key);
-            held_back += (held > 0) as u64;
-            let a = answer(&job);
-            list.push((job, Some(a)));
+    let mut take = |job: Job, directed: bool| {
+        if let Some(c) = Candidate::new(job, directed) {
+            let waits = c.beyond.held > 0;
+            let class = c.class(waits, ", waits");
+            let most = if waits { WAITING } else { NOT_WAITING };
+            held_back += (taken.take(c, &class, most, directed) && waits) as u64;
         }
     };
     for d in waiting::all() {
@@ -144,14 +184,12 @@ pub fn write_waiting(seed: u64, path: &str) -> u64 {
     }
     for place in 0..100_000 {
         let (job, _) = generate::waiting(seed, place);
-        let unknowns = job.nodes.saturating_add(job.sources);
-        if unknowns <= 5 && job.sheet.len() <= 9 * RECORD || (unknowns <= 12 && place % 40 == 0) {
+        if small(&job, place, 9) {
             take(job, false);
         }
     }
-    let bytes = file(Form::Two, &list);
-    println!("{}: {} jobs, {} bytes, seed {}; {}", path, list.len(), bytes.len(), seed, stored(path, &bytes));
-    println!("  {} of them wait; {}", held_back, classes.line());
+    taken.write(seed, path, Form::Two);
+    println!("  {} of them wait; {}", held_back, taken.classes.line());
     0
 }
 
@@ -166,51 +204,50 @@ const SHORT: [usize; 2] = [2_400, 800];
 /// Writes the jobs about patterns that start away from zero: the directed ones, each once, then random ones with the option on, in
 /// form 2.
 pub fn write_patterns(seed: u64, path: &str) -> u64 {
-    let mut list: Vec<(Job, Option<Answer>)> = Vec::new();
-    let mut seen = Vec::new();
-    let mut classes = Tally::default();
+    let mut taken = Taken::default();
     let mut counts = [0; 4];
-    let mut take = |mut job: Job, random: bool| {
-        let (first, beyond) = model::run_beyond(&job, &OURS, Wrong::Nothing);
-        let moved = beyond.moved > 0;
-        let key = format!("{}{}", quota(&job, &first).0, if moved { ", moved" } else { "" });
-        let most = if moved { MOVED[(first.verdict != 0) as usize] } else { NOT_MOVED };
-        tighten(&mut job, &first);
-        let large = job.lengths.iter().zip(MOST_LENT).any(|(l, most)| *l > most);
-        assert!(random || !large, "a directed job lends too much: {}", describe(&job));
-        let long = first.bytes(&job, Form::Two).len() > SHORT[(classes.get(&key) > 0) as usize];
-        if random && (large || long || classes.get(&key) >= most) {
-            return;
-        }
-        if random {
-            classes.add(&key);
-        }
-        for (count, more) in counts.iter_mut().zip([!random, random, moved, moved && beyond.held > 0]) {
-            *count += more as u64;
-        }
-        let a = answer(&job);
-        list.push((job, Some(a)));
-    };
+    let mut seen = Vec::new();
     for d in first::all() {
         let bytes = d.job.bytes(Form::Two);
         if !seen.contains(&bytes) {
             seen.push(bytes);
-            take(d.job, false);
+            take_pattern(&mut taken, &mut counts, d.job, true);
         }
     }
     for place in 0..100_000 {
         let (job, _) = generate::first(seed, place);
-        let unknowns = job.nodes.saturating_add(job.sources);
-        if unknowns <= 5 && job.sheet.len() <= 6 * RECORD || (unknowns <= 12 && place % 40 == 0) {
-            take(job, true);
+        if small(&job, place, 6) {
+            take_pattern(&mut taken, &mut counts, job, false);
         }
     }
-    let bytes = file(Form::Two, &list);
-    println!("{}: {} jobs, {} bytes, seed {}; {}", path, list.len(), bytes.len(), seed, stored(path, &bytes));
+    taken.write(seed, path, Form::Two);
     let [directed, random, moved, waits] = counts;
-    println!("  {} directed, {} random: {}", directed, random, classes.line());
+    println!("  {} directed, {} random: {}", directed, random, taken.classes.line());
     println!("  in {} of them a pattern is moved, in {} of these a pass waits too", moved, waits);
     0
+}
+
+/// Takes a job about patterns, and counts it: directed, random, moved, and with a pass that waits too. Only the random ones are
+/// counted by class.
+fn take_pattern(taken: &mut Taken, counts: &mut [u64; 4], job: Job, directed: bool) {
+    let c = match Candidate::new(job, directed) {
+        None => return,
+        Some(c) => c,
+    };
+    let (moved, waits) = (c.beyond.moved > 0, c.beyond.held > 0);
+    if directed {
+        taken.put(c.job);
+    } else {
+        let class = c.class(moved, ", moved");
+        let most = if moved { MOVED[(c.answer.verdict != 0) as usize] } else { NOT_MOVED };
+        let short = SHORT[(taken.classes.get(&class) > 0) as usize];
+        if c.answer.bytes(&c.job, Form::Two).len() > short || !taken.take(c, &class, most, false) {
+            return;
+        }
+    }
+    for (count, more) in counts.iter_mut().zip([directed, !directed, moved, moved && waits]) {
+        *count += more as u64;
+    }
 }
 
 /// Writes the jobs at the end of the budget.

@@ -308,56 +308,107 @@ pub fn pattern_first(points: &[(f64, f64)], t_delay: f64, repeat: f64, t: f64, w
         (Some(first), Some(last)) => (*first, *last),
         _ => return (Sentence::NoPoint, if wrong == Wrong::FirstNoPointNan { f64::NAN } else { 0.0 }),
     };
-    let single = points.len() == 1;
-    if single && wrong == Wrong::FirstSingleBeforeDelay {
-        return (Sentence::Single, first.1);
-    }
-    let before = if wrong == Wrong::FirstDelayAtMost { t <= t_delay } else { t < t_delay };
-    if before {
-        return (Sentence::BeforeDelay, if wrong == Wrong::FirstHeldBeforeDelay { first.1 } else { 0.0 });
-    }
-    let since = t - t_delay;
-    let cycle = if wrong == Wrong::FirstCycleWithoutDelay { t } else { since } % last.0;
-    let asked = if wrong == Wrong::FirstInFirstCycleOnly { since } else { cycle };
-    let up_to_first = match wrong {
-        Wrong::FirstEqualRamped => !(asked >= first.0),
-        Wrong::FirstNanThrough => asked <= first.0,
-        Wrong::FirstLevelAbove => asked > first.0,
-        _ => !(asked > first.0),
+    let e = Evaluation { points, first, last, t_delay, repeat, t, wrong };
+    let before_delay = (Sentence::BeforeDelay, e.before_delay());
+    let ended = (Sentence::Ended, e.ended());
+    let single = (Sentence::Single, e.single());
+    let first_level = (Sentence::FirstLevel, e.first_level());
+    let order = match wrong {
+        Wrong::FirstSingleBeforeDelay => [single, before_delay, ended, first_level],
+        Wrong::FirstLevelBeforeEnd => [before_delay, first_level, ended, single],
+        _ => [before_delay, ended, single, first_level],
     };
-    let first_level = if wrong == Wrong::FirstLevelZero { 0.0 } else { first.1 };
-    if up_to_first && wrong == Wrong::FirstLevelBeforeEnd {
-        return (Sentence::FirstLevel, first_level);
+    let answered = order.iter().find_map(|(sentence, level)| level.map(|x| (*sentence, x)));
+    answered.unwrap_or_else(|| (Sentence::AsBefore, e.as_before()))
+}
+
+/// One evaluation of a pattern that has points. Each sentence has a level where it answers, and its wrong readings beside it.
+struct Evaluation<'a> {
+    points: &'a [(f64, f64)],
+    first: (f64, f64),
+    last: (f64, f64),
+    t_delay: f64,
+    repeat: f64,
+    t: f64,
+    wrong: Wrong,
+}
+
+impl Evaluation<'_> {
+    /// "A time before the delay: 0".
+    fn before_delay(&self) -> Option<f64> {
+        let at_most = self.wrong == Wrong::FirstDelayAtMost;
+        let before = if at_most { self.t <= self.t_delay } else { self.t < self.t_delay };
+        let level = if self.wrong == Wrong::FirstHeldBeforeDelay { self.first.1 } else { 0.0 };
+        before.then_some(level)
     }
-    let once = match wrong {
-        Wrong::FirstRepeatAtMostZero => repeat <= 0.0,
-        Wrong::FirstNanRepeatOnce => !(repeat >= 0.0),
-        Wrong::FirstEndIgnored => false,
-        Wrong::FirstEndRepeats => true,
-        _ => repeat < 0.0,
-    };
-    let over = match wrong {
-        Wrong::FirstEndStrict => t > t_delay + last.0,
-        Wrong::FirstEndByDifference => since >= last.0,
-        Wrong::FirstEndWithoutDelay => t >= last.0,
-        Wrong::FirstEndRepeats => t == t_delay + last.0 || repeat < 0.0 && t >= t_delay + last.0,
-        _ => t >= t_delay + last.0,
-    };
-    if once && over {
-        return (Sentence::Ended, if wrong == Wrong::FirstLastZero { 0.0 } else { last.1 });
+
+    /// "Without repeat and at or past its end: the last level".
+    fn ended(&self) -> Option<f64> {
+        let level = if self.wrong == Wrong::FirstLastZero { 0.0 } else { self.last.1 };
+        (self.once() && self.over()).then_some(level)
     }
-    if single && wrong != Wrong::FirstSingleLeftOut {
-        return (Sentence::Single, first.1);
+
+    fn once(&self) -> bool {
+        match self.wrong {
+            Wrong::FirstRepeatAtMostZero => self.repeat <= 0.0,
+            Wrong::FirstNanRepeatOnce => !(self.repeat >= 0.0),
+            Wrong::FirstEndIgnored => false,
+            Wrong::FirstEndRepeats => true,
+            _ => self.repeat < 0.0,
+        }
     }
-    if up_to_first {
-        return (Sentence::FirstLevel, first_level);
+
+    fn over(&self) -> bool {
+        let (t, end) = (self.t, self.t_delay + self.last.0);
+        match self.wrong {
+            Wrong::FirstEndStrict => t > end,
+            Wrong::FirstEndByDifference => self.since() >= self.last.0,
+            Wrong::FirstEndWithoutDelay => t >= self.last.0,
+            Wrong::FirstEndRepeats => t == end || self.repeat < 0.0 && t >= end,
+            _ => t >= end,
+        }
     }
-    let past_all = points.iter().all(|p| cycle > p.0);
-    if past_all && wrong == Wrong::FirstPastAllHeld {
-        return (Sentence::AsBefore, last.1);
+
+    /// "A single point: its level".
+    fn single(&self) -> Option<f64> {
+        let single = self.points.len() == 1 && self.wrong != Wrong::FirstSingleLeftOut;
+        single.then_some(self.first.1)
     }
-    let from = if wrong == Wrong::FirstCycleWithoutDelay { 0.0 } else { t_delay };
-    (Sentence::AsBefore, pattern(points, from, repeat, t, Wrong::Nothing))
+
+    /// "A cycle time not above the first point's: the first level".
+    fn first_level(&self) -> Option<f64> {
+        let asked = if self.wrong == Wrong::FirstInFirstCycleOnly { self.since() } else { self.cycle() };
+        let up_to_first = match self.wrong {
+            Wrong::FirstEqualRamped => !(asked >= self.first.0),
+            Wrong::FirstNanThrough => asked <= self.first.0,
+            Wrong::FirstLevelAbove => asked > self.first.0,
+            _ => !(asked > self.first.0),
+        };
+        let level = if self.wrong == Wrong::FirstLevelZero { 0.0 } else { self.first.1 };
+        up_to_first.then_some(level)
+    }
+
+    /// "Then as before".
+    fn as_before(&self) -> f64 {
+        let cycle = self.cycle();
+        let past_all = self.points.iter().all(|p| cycle > p.0);
+        if past_all && self.wrong == Wrong::FirstPastAllHeld {
+            return self.last.1;
+        }
+        let from = if self.wrong == Wrong::FirstCycleWithoutDelay { 0.0 } else { self.t_delay };
+        pattern(self.points, from, self.repeat, self.t, Wrong::Nothing)
+    }
+
+    /// The time since the delay.
+    fn since(&self) -> f64 {
+        self.t - self.t_delay
+    }
+
+    /// The time in its cycle.
+    fn cycle(&self) -> f64 {
+        let from = if self.wrong == Wrong::FirstCycleWithoutDelay { self.t } else { self.since() };
+        from % self.last.0
+    }
 }
 
 /// A capacitor's conductance and current.
