@@ -108,7 +108,10 @@ fn a_transient_says_where_its_last_vector_is_behind() {
     };
     for catchup in [0, 1] {
         let (answer, lent) = run(catchup);
-        let Transient::Ended { verdict: Verdict::Settled, behind: named, .. } = answer else { panic!("{answer:?}") };
+        let named = match answer {
+            Transient::Ended { verdict: Verdict::Settled, behind, .. } => behind,
+            other => panic!("{other:?}"),
+        };
         assert_eq!(named, behind(&Record::sheet(&with_diode(5.0)), &lent.vector, &lent.memory, Options::bench()));
         assert_eq!(named, None);
     }

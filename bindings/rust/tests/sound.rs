@@ -108,7 +108,10 @@ fn causes_have_their_numbers() {
 #[test]
 fn both_reports() {
     let mut plain = SpreadsLent::new(7, NODES, SOURCES, RECORDS);
-    let Spreads::Ran(plain) = spreads(&mixed(), &[], 7, NODES, SOURCES, 2, Options::bench(), plain.buffers()) else { panic!() };
+    let plain = match spreads(&mixed(), &[], 7, NODES, SOURCES, 2, Options::bench(), plain.buffers()) {
+        Spreads::Ran(plain) => plain,
+        other => panic!("{other:?}"),
+    };
     judged(&LOOSE, |r| {
         let s = &r.settled;
         assert_eq!((s.jobs, s.smallest, s.largest, s.sum), (plain.settled, plain.smallest, plain.largest, plain.sum));
