@@ -248,8 +248,8 @@ savrunte_sin_answer savrunte_sin(double x);
 double savrunte_pattern(const uint8_t *points, size_t points_len, double t_delay, double repeat, double t);
 
 /* The same where the option pattern_first is on. In this order: no points, or t < t_delay: 0; repeat < 0 and t >= t_delay + the last time:
- * the last level; a single point: its level; a cycle time, fmod(t - t_delay, the last time), that is not above the first time: the first
- * level; else what savrunte_pattern answers. */
+ * the last level; a single point: its level; a cycle time, fmod(t - t_delay, the last time), that is not above the first time, a NaN
+ * among them: the first level; else what savrunte_pattern answers. */
 double savrunte_pattern_first(const uint8_t *points, size_t points_len, double t_delay, double repeat, double t);
 
 /* The companion model of a capacitor at voltage v over one step. */
