@@ -2,6 +2,7 @@
 pub mod Signs
 pub mod Capacitor
 pub mod Diode
+pub mod Situation
 pub mod Sine
 pub mod Vpwl
 pub mod laws

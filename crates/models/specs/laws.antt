@@ -1,5 +1,6 @@
 -- What holds of the definitions, and cases worked out.
 pub mod Numbers
+pub mod Situations
 pub mod Binary64
 pub mod Remainder
 pub mod Points
