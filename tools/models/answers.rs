@@ -4,6 +4,7 @@
 //!   patterns_first  the same by the rule of the option pattern_first, which the Rust has not: its sentences are written out here
 //!   capacitors  value, v_prev, t_delta, g, i
 //!   diodes      gmin, boltzmann, charge, i_sat, tdegc, v_hat, v_d_prev, verdict, g, i, memory
+//!   situations  the same, then the situation of the limiting rule, 1 to 5 in the order in which they are asked for
 //!   sines       vo, va, freq, t, verdict, level
 //! Counts and verdicts are whole numbers, all others floats; every NaN is written as one.
 
@@ -60,6 +61,7 @@ impl Proved for f64 {
     }
 }
 
+use std::convert::TryInto;
 use std::fs;
 use std::panic;
 
@@ -67,6 +69,7 @@ const PATTERNS: usize = 1200;
 const PATTERNS_FIRST: usize = 900;
 const CAPACITORS: usize = 600;
 const DIODES: usize = 1000;
+const SITUATIONS: usize = 1000;
 const SINES: usize = 600;
 
 /// A row of numbers, as it is written.
@@ -360,6 +363,86 @@ fn some_diode(s: &mut Source) -> Row {
     }
 }
 
+// ---- the situations of a diode
+
+const SITUATION_NAMES: [&str; 5] = ["a small step", "below critical", "a turn-on", "a fall back", "a climb"];
+
+/// Which situation holds, and the voltage that its formula takes, by the Rust's own thermal and critical voltage.
+fn situation(d: &diode::Diode, v: f64, memory: f64) -> (u64, f64) {
+    let (vt, delta) = (d.v_thermal, v - memory);
+    let arg = 1.0 + delta / vt;
+    if delta.abs() <= 2.0 * vt {
+        (1, v)
+    } else if v < d.v_crit {
+        (2, v)
+    } else if memory <= 0.0 {
+        (3, vt * functions::ln(v / vt))
+    } else if arg <= 0.0 {
+        (4, d.v_crit)
+    } else {
+        (5, memory + vt * functions::ln(arg))
+    }
+}
+
+/// A diode's row with its situation. Where the Rust has a model, the voltage that it took must be that of the situation's formula.
+fn situated(constants: [f64; 3], i_sat: f64, tdegc: f64, v: f64, memory: f64) -> Row {
+    let row = diode(constants, i_sat, tdegc, v, memory);
+    let d = diode::Diode::new("D", 0, 0, i_sat, tdegc);
+    let (number, taken) = situation(&d, v, memory);
+    d.v_d_prev.set(memory);
+    if panic::catch_unwind(panic::AssertUnwindSafe(|| d.linearize(v, 0.0))).is_ok() {
+        assert_eq!(d.v_d_prev.get().to_bits(), taken.to_bits());
+    }
+    row.count(number)
+}
+
+/// Floats beside x, and x.
+fn beside(x: f64) -> [f64; 3] {
+    [x, f64::from_bits(x.to_bits().wrapping_add(1)), f64::from_bits(x.to_bits().wrapping_sub(1))]
+}
+
+/// Every edge from both sides: steps of two thermal voltages up and down, an argument of 0, the critical voltage, and memories beside either zero; then infinities and NaN.
+/// With a saturation current of `level` the critical voltage is 0 at a thermal voltage of 1; negated it is so at -1, where alone an argument can be 0.
+fn known_situations() -> Vec<Row> {
+    let level = f64::from_bits(0x3fe6a09e667f3bcc);
+    let least = f64::from_bits(1);
+    let mut rows = vec![];
+    for &(vt, i_sat) in &[(1.0, level), (1.0, 10.0), (0.03125, 1e-12), (-1.0, -level), (-1.0, level)] {
+        circuit::CONSTANTS.with(|c| c.set(exactly(1e-12, vt)));
+        let critical = diode::Diode::new("D", 0, 0, i_sat, -362.0).v_crit;
+        for &memory in &[0.0, -0.0, least, -least, 1.0, 5.0, -1.0, f64::INFINITY, f64::NAN] {
+            let edges = [memory + 2.0 * vt, memory - 2.0 * vt, memory - vt, critical];
+            let near = edges.iter().flat_map(|x| beside(*x).to_vec());
+            let far = vec![2.0, 3.0, 9.0, -2.5, f64::INFINITY, f64::NEG_INFINITY, f64::NAN];
+            rows.extend(near.chain(far).map(|v| situated(exactly(1e-12, vt), i_sat, -362.0, v, memory)));
+        }
+    }
+    for &vt in &[0.0, -0.0, f64::INFINITY, f64::NAN] {
+        for &i_sat in &[1e-12, 0.0, f64::NAN] {
+            for &(v, memory) in &[(0.0, 0.0), (1.0, 0.0), (1.0, 0.5), (0.5, 1.0), (-1.0, 0.5)] {
+                rows.push(situated(exactly(1e-12, vt), i_sat, -362.0, v, memory));
+            }
+        }
+    }
+    rows
+}
+
+/// A usual diode at voltages that reach every situation.
+fn some_situation(s: &mut Source) -> Row {
+    let i_sat = s.of(&[1e-12, 1e-14, 1e-15, 1e-9]) * s.between(0.5, 2.0);
+    let memory = if s.below(3) == 0 { 0.0 } else { s.between(-0.2, 2.0) };
+    situated(PUBLISHED, i_sat, s.of(&[27.0, -62.85, 25.0, 100.0]), s.between(-1.0, 3.0), memory)
+}
+
+/// Every situation must be met, with a model and not 22.
+fn well_met(rows: &[Row]) {
+    let word = |r: &Row, at: usize| u64::from_le_bytes(r.0[8 * at..8 * at + 8].try_into().unwrap());
+    for (k, name) in SITUATION_NAMES.iter().enumerate() {
+        let met = rows.iter().filter(|r| word(r, 11) == k as u64 + 1 && word(r, 7) == 0).count();
+        assert!(met >= 20, "{} is met by {} rows", name, met);
+    }
+}
+
 // ---- sines
 
 fn sine(vo: f64, va: f64, freq: f64, t: f64) -> Row {
@@ -428,5 +511,8 @@ fn main() {
     write(&folder, "patterns_first", filled(known_first(), PATTERNS_FIRST, 5, some_first));
     write(&folder, "capacitors", filled(vec![capacitor(1.0, 3.0, 0.5)], CAPACITORS, 2, some_capacitor));
     write(&folder, "diodes", filled(known_diodes(), DIODES, 3, some_diode));
+    let situations = filled(known_situations(), SITUATIONS, 6, some_situation);
+    well_met(&situations);
+    write(&folder, "situations", situations);
     write(&folder, "sines", filled(known_sines(), SINES, 4, some_sine));
 }

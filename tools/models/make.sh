@@ -56,13 +56,15 @@ edit diode.rs 1 '\.exp()' '.proved_exp()'
 edit diode.rs 3 '\.ln()' '.proved_ln()'
 edit isine.rs 1 '\.sin()' '.proved_sin()'
 edit vsine.rs 1 '\.sin()' '.proved_sin()'
-# the constants are handed in, and a diode's memory can be set
+# the constants are handed in; a diode's memory can be set, and its thermal and critical voltage read
 edit diode.rs 1 'BOLTZMANN \*' 'BOLTZMANN() *'
 edit diode.rs 1 '/ CHARGE;' '/ CHARGE();'
 edit diode.rs 1 'Cell::new(GMIN)' 'Cell::new(GMIN())'
 edit diode.rs 1 'g_eq < GMIN ' 'g_eq < GMIN() '
 edit diode.rs 1 'g_eq = GMIN;' 'g_eq = GMIN();'
 edit diode.rs 1 '^    v_d_prev: Cell<f64>,' '    pub v_d_prev: Cell<f64>,'
+edit diode.rs 1 '^    v_thermal: f64,' '    pub v_thermal: f64,'
+edit diode.rs 1 '^    v_crit: f64,' '    pub v_crit: f64,'
 for f in diode isine vsine; do
     echo 'use crate::Proved;' >> "$scratch/$f.rs"
 done

@@ -8,3 +8,4 @@ pub mod Rising
 pub mod First
 pub mod Cases
 pub mod SineAtZero
+pub mod SituationCases

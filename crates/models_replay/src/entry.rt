@@ -1,6 +1,7 @@
 // One stored answer of each model: its length, and whether the model answers it.
 ghost use Prim.Native.Nat.{_≤_};
 use models::diode::Linear;
+use models::diode::Situation;
 use models::sine::Level;
 use num::f64_at;
 use num::u64_at;
@@ -18,6 +19,8 @@ pub const SINES: u8 = 3;
 
 pub const PATTERNS_FIRST: u8 = 4;
 
+pub const SITUATIONS: u8 = 5;
+
 // The bytes of an entry.
 pub fn size_of(kind: u8) -> usize
     ensures { λ r. ⌜ r ≤ 144 ⌝ }
@@ -33,6 +36,9 @@ pub fn size_of(kind: u8) -> usize
     }
     if kind == DIODES {
         return 88;
+    }
+    if kind == SITUATIONS {
+        return 96;
     }
     48
 }
@@ -50,6 +56,9 @@ pub fn is_right(e: &[u8], kind: u8) -> bool {
     }
     if kind == DIODES {
         return diode_right(e);
+    }
+    if kind == SITUATIONS {
+        return situation_right(e);
     }
     sine_right(e)
 }
@@ -106,6 +115,28 @@ fn diode_right(e: &[u8]) -> bool {
             }
             false
         }
+    }
+}
+
+// A diode's entry, and behind it the situation of its limiting.
+fn situation_right(e: &[u8]) -> bool {
+    let o = options_of(f64_at(e, 0), f64_at(e, 8), f64_at(e, 16));
+    let v_thermal = models::diode::thermal_voltage(o, f64_at(e, 32));
+    let s = models::diode::situation_of(v_thermal, f64_at(e, 24), f64_at(e, 40), f64_at(e, 48));
+    if number_of(s) == u64_at(e, 88) {
+        return diode_right(e);
+    }
+    false
+}
+
+// The situations in the order in which they are asked for, from 1.
+fn number_of(s: Situation) -> u64 {
+    match s {
+        Situation::SmallStep => 1,
+        Situation::BelowCritical => 2,
+        Situation::TurnOn => 3,
+        Situation::FallBack { v_crit: _ } => 4,
+        Situation::Climb { arg: _ } => 5,
     }
 }
 

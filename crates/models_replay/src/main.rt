@@ -17,6 +17,7 @@ fn main() {
     replay(b"patterns_first", entry::PATTERNS_FIRST);
     replay(b"capacitors", entry::CAPACITORS);
     replay(b"diodes", entry::DIODES);
+    replay(b"situations", entry::SITUATIONS);
     replay(b"sines", entry::SINES);
 }
 
