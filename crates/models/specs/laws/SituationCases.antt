@@ -10,7 +10,7 @@ use Rattle.num.specs.Literals.{half, one, two, three, four, five, minusOne, min
 use Rattle.functions.specs.Exp.{expOf}
 use Rattle.functions.specs.Ln.{lnWord, zWord, lnSize, lnAnswer, lnPositive, lnOf}
 use Rattle.functions.specs.Words.{horner, rounded, packed}
-use Rattle.models.specs.Signs.{_⊕_, _⊗_}
+use Rattle.models.specs.Signs.{_⊕_}
 use Rattle.models.specs.Diode.{critical, limited, modelAt}
 use Rattle.models.specs.Situation.{falling, situationOf}
 use Rattle.models.specs.declared.diode.Linear.the-variants.{NotFinite}

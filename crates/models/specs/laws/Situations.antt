@@ -4,7 +4,7 @@ use mathlib.Core.Path.{_≡_, refl, sym, ap, _∙_}
 use mathlib.Core.Bool.{Bool, true, false, cond}
 use lib.Ieee.{Float, nan, inf, fin, add, sub, mul, div, neg, lt, eq, le, isNan, ofBits}
 use lib.Ieee.Scale.{finite}
-use Rattle.num.specs.Floats.{nought, absoluteOf}
+use Rattle.num.specs.Floats.{absoluteOf}
 use Rattle.num.specs.Literals.{one}
 use Rattle.options.specs.declared.Options.{Options}
 use Rattle.functions.specs.Ln.{lnOf}
@@ -13,7 +13,6 @@ use Rattle.functions.specs.laws.Values.{exp-nan, ln-nan}
 use Rattle.models.specs.Signs.{_⊕_, _⊖_, _⊗_, _⊘_}
 use Rattle.models.specs.Diode.{limited, modelAt, linearized, critical, thermal, numbersOf}
 use Rattle.models.specs.Situation.{small, below, resting, argument, falling, situationOf, limitedIn}
-use Rattle.models.specs.declared.diode.Linear.{Linear}
 use Rattle.models.specs.declared.diode.Linear.the-variants.{Model, NotFinite}
 use Rattle.models.specs.declared.diode.Situation.{Situation}
 use Rattle.models.specs.declared.diode.Situation.the-variants.{SmallStep, BelowCritical, TurnOn, FallBack, Climb}
