@@ -27,7 +27,7 @@ pub enum Situation {
     // The step goes down so far that arg, one plus the step counted in thermal voltages, is zero or below and has no logarithm.
     // Rust: arg <= 0.0
     FallBack { v_crit: f64 },
-    // All others: the diode was forward biased and is to go up, by more than two thermal voltages. A NaN ends here too, or in a turn-on.
+    // All others: the diode was forward biased and is to go up by more than two thermal voltages, or a NaN is among the numbers.
     // Rust: else
     Climb { arg: f64 },
 }
