@@ -53,7 +53,7 @@ static void from(diode d, double memory) {
 
 int main(void) {
     const double memories[] = {-1.0, 0.0, 0.84, 1.1, 1.2};
-    const diode usual = diode_of(1e-12);
+    const diode usual = diode_of(1e-12), strong = diode_of(1.0);
     printf("#i_sat\tthermal\tcritical\tmemory\tasked\tverdict\ttaken\tg\ti\n");
     for (size_t k = 0; k < sizeof memories / sizeof memories[0]; k++) {
         from(usual, memories[k]);
@@ -61,7 +61,9 @@ int main(void) {
     }
     /* the least memory that is not a turn-on's */
     ask(usual, nextafter(0.0, 1.0), 1.0);
-    /* so much saturation current that the critical voltage is below zero: a step down that is a turn-on, since that is asked first, and has no logarithm */
-    ask(diode_of(1.0), 0.0, -0.1);
+    /* So much saturation current that the critical voltage is below zero. Then a step from 0 V can be two thermal voltages exactly and be a small step by that
+     * alone; and a longer one down meets the conditions of turn-on and fall back both. Turn-on is asked first, and has no logarithm. */
+    edge(strong, 0.0, 2.0 * strong.thermal);
+    edge(strong, 0.0, -2.0 * strong.thermal);
     return 0;
 }
