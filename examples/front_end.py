@@ -17,7 +17,6 @@ import os
 import struct
 
 NODES, SOURCES, OUTPUT = 12, 4, 11
-N = NODES + SOURCES
 
 
 def record(kind, p, n, controls=(0, 0), source=0, points=(0, 0), floats=()):
@@ -104,14 +103,21 @@ POINT_BYTES, RAMP_BYTES = (b''.join(struct.pack('<dd', *p) for p in points) for 
 TOLERANCES = [0.0] + [1e-12] * (NODES - 1) + [1e-9] * SOURCES
 
 
-def job(sheet, transient=0, rows=0, itl1=50, tolerances=(), options=OPTIONS, points=POINT_BYTES, pattern_first=0):
+def job(sheet, transient=0, rows=0, itl1=50, tolerances=(), options=OPTIONS, points=POINT_BYTES, pattern_first=0, nodes=NODES, sources=SOURCES):
     """A job of form 2; its last two words are the options catchup, which stays off, and pattern_first."""
-    cells = N * (N + 1)
-    lent = [cells, cells, cells, N, len(sheet) // 40, rows * (N + 1)]
-    body = struct.pack('<4Q', 32, transient, NODES, SOURCES) + options + struct.pack('<4Q', itl1, 8, 20, 10000)
+    n = nodes + sources
+    lent = [n * (n + 1)] * 3 + [n, len(sheet) // 40, rows * (n + 1)]
+    body = struct.pack('<4Q', 32, transient, nodes, sources) + options + struct.pack('<4Q', itl1, 8, 20, 10000)
     body += struct.pack('<2Q', len(sheet), len(points)) + struct.pack('<6Q', *lent) + struct.pack('<2Q', 0, pattern_first)
     body += sheet + points + struct.pack('<%dd' % len(tolerances), *tolerances)
     return struct.pack('<Q', len(body) + 8) + body
+
+
+def write(name, jobs):
+    """A file of jobs beside this script."""
+    path = os.path.join(os.path.dirname(os.path.abspath(__file__)), name)
+    with open(path, 'wb') as f:
+        f.write(b'SAVJOBS2' + struct.pack('<3Q', len(jobs), max(map(len, jobs)), 0) + b''.join(jobs))
 
 
 def main():
@@ -121,9 +127,7 @@ def main():
     ramp = dict(sheet=b''.join(ramped(nominal)), transient=1, rows=40, tolerances=TOLERANCES, options=RAMP_OPTIONS, points=POINT_BYTES + RAMP_BYTES)
     jobs = [job(sheet, tolerances=TOLERANCES), job(sheet, transient=1, rows=400, tolerances=TOLERANCES), job(sheet, itl1=4), job(damaged)]
     jobs += [job(**ramp, pattern_first=1), job(**ramp)]
-    path = os.path.join(os.path.dirname(os.path.abspath(__file__)), 'front_end.jobs')
-    with open(path, 'wb') as f:
-        f.write(b'SAVJOBS2' + struct.pack('<3Q', len(jobs), max(map(len, jobs)), 0) + b''.join(jobs))
+    write('front_end.jobs', jobs)
 
 
 if __name__ == '__main__':

@@ -14,7 +14,8 @@ import tempfile
 from math import fsum
 
 sys.dont_write_bytecode = True
-from runs import BEHIND, SETS, SOUND, Report, Spreads, compare_table, table  # noqa: E402
+from runs import BEHIND, DOCUMENT, SETS, SOUND, Report, Spreads  # noqa: E402
+from pages import compare_table, table  # noqa: E402
 
 # how far the means may be apart with the option on, at the loosest tolerances and at the tightest
 LOOSEST, TIGHTEST = 1e-5, 1e-6
@@ -95,7 +96,7 @@ def main():
               for k, job in enumerate(final) if job.cause == SOUND}
     print(f'{version}: {len(theirs)} jobs of {spreads.jobs}; left out: ' + ', '.join(f'job {k} ({job.cause})' for k, job in enumerate(final) if job.cause != SOUND))
     rows = [row(tolerances, on, theirs) for tolerances in SETS for on in (False, True)]
-    status = compare_table(table(HEAD, [cells for cells, _ in rows]))
+    status = compare_table(DOCUMENT, table(HEAD, [cells for cells, _ in rows]))
     for cells, wrong in rows:
         if wrong:
             print(*cells[:4], wrong, sep=', ')

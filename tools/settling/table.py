@@ -6,7 +6,8 @@ Runs examples/spreads.jobs at five sets of tolerances with the option off and on
 import sys
 
 sys.dont_write_bytecode = True
-from runs import BEHIND, SETS, SOUND, Report, Spreads, compare_lines, compare_table, program, table  # noqa: E402
+from runs import BEHIND, DOCUMENT, SETS, SOUND, Report, Spreads, program  # noqa: E402
+from pages import compare_lines, compare_table, table  # noqa: E402
 
 HEAD = ['RELTOL', 'VNTOL', 'ABSTOL', '`catchup`', 'settled', 'of these behind', 'mean over the sound, V', 'mean over the settled, V', 'passes a run']
 
@@ -29,5 +30,5 @@ def sheet():
 
 
 spreads = Spreads()
-status = compare_table(table(HEAD, [row(tolerances, on) for tolerances in SETS for on in (False, True)]))
-sys.exit(max(status, compare_lines(sheet(), r'    NOT SOUND.*\n(    .*\n)*')))
+status = compare_table(DOCUMENT, table(HEAD, [row(tolerances, on) for tolerances in SETS for on in (False, True)]))
+sys.exit(max(status, compare_lines(DOCUMENT, sheet(), r'    NOT SOUND.*\n(    .*\n)*')))

@@ -1,0 +1,3 @@
+#!/usr/bin/env bash
+# Builds and runs examples/diode.c.
+exec "$(dirname "$0")/run.sh" diode
