@@ -2,7 +2,7 @@
 """A diode that meets all five situations of its limiting rule, one after the other: writes examples/diode.jobs, which ./savrunte runs (docs/DIODE.md, docs/FORMATS.md).
 
 12 V through 20 ohm onto a line with two diodes at 27 C: one of 1e-12 A to a supply of 2 V, one of 1e-14 A to ground. Both are pulled up at first, and the first one begins to carry the current.
-Then the second one does: the line falls, and the first diode is off in the end. With a single diode that conducts, behind resistors, there is no fall back: it is never asked to step down by as much as a thermal voltage.
+Then the second one does: the line falls, and the first diode is off in the end.
 
 Nodes: 0 ground, 1 the 12 V, 2 the line, 3 the 2 V. Sources: 0 the 12 V, 1 the 2 V. The first diode is the first record, so that it is the one that the program names where both are behind.
 
