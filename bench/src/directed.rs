@@ -5,7 +5,7 @@ use crate::compare::*;
 use crate::first;
 use crate::job::*;
 use crate::limits;
-use crate::model::{self, Wrong, WRONG, WRONG_BEHIND, WRONG_LIMIT, WRONG_PATTERN, WRONG_WORD};
+use crate::model::{self, Wrong, WRONG, WRONG_BEHIND, WRONG_PATTERN, WRONG_WORD};
 use crate::oracle::plain;
 use crate::sides::{self, Outcome, MUST_AGREE, OURS, PAIRS};
 use crate::waiting;
@@ -777,7 +777,7 @@ pub fn run() -> u64 {
     );
     bad += told.untold("diodes that are behind and of waiting", WRONG_BEHIND);
     bad += told.untold("patterns that start away from zero", &[WRONG_PATTERN, WRONG_WORD].concat());
-    bad += told.untold("the diode's limiting rule", WRONG_LIMIT);
+    bad += told.untold("the diode's limiting rule", &limits::shown_by_runs());
     bad + calls
 }
 

@@ -238,6 +238,7 @@ fn criticals() -> Vec<Case> {
             (last(c), 40.0, BelowCritical, Some(last(c))), (c, 40.0, FallBack, Some(c)), (next(c), 40.0, FallBack, Some(c))]),
         ("about it from 26 V", high, vec![
             (last(c), 26.0, SmallStep, Some(last(c))), (c, 26.0, SmallStep, Some(c)), (next(c), 26.0, SmallStep, Some(next(c)))]),
+        ("a zero below it keeps its sign", high, vec![(-0.0, 5.0, BelowCritical, Some(-0.0)), (0.0, 5.0, BelowCritical, Some(0.0))]),
         ("from below it to above, and back", high, vec![(30.0, 5.0, Climb, Some(5.0 + ln(26.0))), (5.0, 30.0, BelowCritical, Some(5.0))]),
     ]
 }
@@ -255,6 +256,7 @@ fn colds() -> Vec<Case> {
         ("arg of 0.5, 1, 1.5 and -3", COLD, vec![
             (1.5, 1.0, Climb, Some(1.0 - ln(0.5))), (1.0, 1.0, Climb, Some(1.0)), (0.5, 1.0, Climb, Some(1.0 - ln(1.5))), (5.0, 1.0, FallBack, Some(-0.0))]),
         ("a turn-on below absolute zero", COLD, vec![(0.5, 0.0, TurnOn, OVER), (0.0, 0.0, TurnOn, Some(INF)), (-0.0, 0.0, TurnOn, Some(INF))]),
+        ("a turn-on to -0.0 V", exactly(-1.0, 1.0), vec![(-1.0, 0.0, TurnOn, Some(-0.0))]),
         ("below critical below absolute zero", COLD, vec![(-1.0, 1.0, BelowCritical, Some(-1.0)), (-LEAST, 1.0, BelowCritical, Some(-LEAST))]),
     ]
 }
@@ -414,7 +416,7 @@ fn cold(level: f64) -> Job {
     across(COLD, Build::transient(2, 1, 0.5).v(1, 0, level, 0))
 }
 
-/// One job for each wrong reading that has none among those of document 01.
+/// One job for each wrong reading that a run can show and that has none among those of document 01.
 fn tellers() -> Vec<(Wrong, Job)> {
     let falls = || stairs(ZERO, &[2.0, 4.0, 5.0, 1.0]);
     let falls_low = || stairs(LOW, &[1.0, -2.5]);
@@ -451,6 +453,11 @@ fn tellers() -> Vec<(Wrong, Job)> {
         (Wrong::LimitFallBackClimbExchanged, climbs()),
         (Wrong::LimitMemoryAsked, climbs()),
     ]
+}
+
+/// The readings that a run can show. In a run no memory is NaN: it starts at 0 V, and a limited voltage that is NaN ends the run by 22.
+pub fn shown_by_runs() -> Vec<(Wrong, &'static str)> {
+    WRONG_LIMIT.iter().copied().filter(|w| w.0 != Wrong::LimitNanMemoryTurnsOn).collect()
 }
 
 pub fn all() -> Vec<Directed> {
