@@ -328,7 +328,9 @@ fn amiss(call: &Call, line: &Line) -> Vec<String> {
     let mut list: Vec<String> = sides
         .into_iter()
         .filter(|(_, n)| bad(n))
-        .map(|(side, n)| format!("{}: {:?} and not verdict and memory {:?}", side, n, expected))
+        .map(|(side, n)| {
+            format!("{}: {:?}; verdict and memory must be {:?}, the others the model's", side, n, expected)
+        })
         .collect();
     if call.situation() != situation {
         list.push(format!("{} and not {}", title(call.situation()), title(situation)));
