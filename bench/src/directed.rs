@@ -4,6 +4,7 @@
 use crate::compare::*;
 use crate::first;
 use crate::job::*;
+use crate::limits;
 use crate::model::{self, Wrong, WRONG, WRONG_BEHIND, WRONG_PATTERN, WRONG_WORD};
 use crate::oracle::plain;
 use crate::sides::{self, Outcome, MUST_AGREE, OURS, PAIRS};
@@ -461,7 +462,7 @@ fn many(records: usize) -> Job {
 }
 
 /// A diode's thermal voltage with the Rust's constants.
-fn thermal(tdegc: f64) -> f64 {
+pub fn thermal(tdegc: f64) -> f64 {
     f64::from_bits(BOLTZMANN) * (363.0 + tdegc) / f64::from_bits(CHARGE)
 }
 
@@ -651,7 +652,7 @@ fn meets(d: &Directed, a: &Answer) -> bool {
 
 /// Shows each with its answer.
 pub fn show_all() -> u64 {
-    for d in all().into_iter().chain(waiting::all()).chain(first::all()) {
+    for d in [all(), waiting::all(), first::all(), limits::all()].into_iter().flatten() {
         let o = sides::run(&d.job);
         let a = o.answer;
         println!("{}\n  {}", d.name, describe(&d.job));
@@ -732,10 +733,20 @@ impl Told {
     }
 }
 
+/// Says which readings of a list no directed call tells; answers how many.
+pub fn untold_by_calls(told: &[Wrong], list: &[(Wrong, &str)]) -> u64 {
+    let untold: Vec<&str> = list.iter().filter(|w| !told.contains(&w.0)).map(|w| w.1).collect();
+    for text in &untold {
+        println!("  NOT TOLD by a directed call: {}", text);
+    }
+    untold.len() as u64
+}
+
 /// Runs them all; answers how many are amiss.
 pub fn run() -> u64 {
-    let list: Vec<Directed> = all().into_iter().chain(budgets()).chain(waiting::all()).chain(first::all()).collect();
-    let calls = first::run_calls();
+    let list: Vec<Directed> =
+        [all(), budgets(), waiting::all(), first::all(), limits::all()].into_iter().flatten().collect();
+    let calls = first::run_calls() + limits::run_calls() + limits::run_stairs();
     let mut bad = 0;
     let mut told = Told::default();
     for d in &list {
@@ -766,6 +777,7 @@ pub fn run() -> u64 {
     );
     bad += told.untold("diodes that are behind and of waiting", WRONG_BEHIND);
     bad += told.untold("patterns that start away from zero", &[WRONG_PATTERN, WRONG_WORD].concat());
+    bad += told.untold("the diode's limiting rule", &limits::shown_by_runs());
     bad + calls
 }
 

@@ -3,7 +3,7 @@
 //! a file of their own.
 
 use crate::compare::same;
-use crate::directed::{Build, Directed, Expected};
+use crate::directed::{untold_by_calls, Build, Directed, Expected};
 use crate::door;
 use crate::job::*;
 use crate::leaves::point_bytes;
@@ -420,19 +420,16 @@ pub fn run_calls() -> u64 {
             }
         }
     }
-    let untold: Vec<&str> = WRONG_PATTERN.iter().filter(|w| !told.contains(&w.0)).map(|w| w.1).collect();
+    let untold = untold_by_calls(&told, WRONG_PATTERN);
     println!(
         "directed: {} calls of a pattern, each with pattern_first off and on, {} amiss; they tell {} of {} wrong readings; {}",
         calls,
         bad,
-        WRONG_PATTERN.len() - untold.len(),
+        WRONG_PATTERN.len() as u64 - untold,
         WRONG_PATTERN.len(),
         sentences.line()
     );
-    for text in &untold {
-        println!("  NOT TOLD by a directed call: {}", text);
-    }
-    bad + untold.len() as u64
+    bad + untold
 }
 
 fn text(s: Sentence) -> &'static str {

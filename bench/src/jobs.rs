@@ -4,7 +4,8 @@ use crate::compare::*;
 use crate::form::{file, Form};
 use crate::generate::{self, Sort};
 use crate::job::*;
-use crate::model::{self, Wrong, WRONG, WRONG_BEHIND, WRONG_PATTERN, WRONG_WORD};
+use crate::model::{self, Situation, Situations, Wrong, SITUATIONS};
+use crate::model::{WRONG, WRONG_BEHIND, WRONG_LIMIT, WRONG_PATTERN, WRONG_WORD};
 use crate::shrink::shrink;
 use crate::sides::{self, MUST_AGREE, OURS, PAIRS};
 use crate::tally::{Progress, Tally};
@@ -109,7 +110,9 @@ fn off() -> List {
     let of_option = |w: &Wrong| format!("{:?}", w).starts_with("Catchup") && *w != Wrong::CatchupAlways;
     let behind = WRONG_BEHIND.iter().filter(|w| !of_option(&w.0) && w.0 != Wrong::WaitingIsFree);
     let always = WRONG_WORD.iter().filter(|w| w.0 == Wrong::FirstAlways);
-    List { name: "jobs", draw: generate::job, wrong: WRONG.iter().chain(behind).chain(always).copied().collect() }
+    let limit = WRONG_LIMIT.iter().filter(|w| !WRONG.iter().any(|known| known.0 == w.0));
+    let wrong = WRONG.iter().chain(behind).chain(always).chain(limit).copied().collect();
+    List { name: "jobs", draw: generate::job, wrong }
 }
 
 fn on() -> List {
@@ -139,12 +142,12 @@ fn run_list(list: &List, seed: u64, count: u64, folder: &str) -> u64 {
     let mut apart = Apart::default();
     let mut told = vec![0u64; list.wrong.len()];
     let mut sizes = [0u64; 49];
-    let mut behind = Behind::default();
+    let mut diodes = Diodes::default();
     let mut moved = Moved::default();
     for place in 0..count {
         let (job, sort) = (list.draw)(seed, place);
         let outcome = sides::run(&job);
-        behind.add(&job, &outcome);
+        diodes.add(&job, &outcome);
         moved.add(&job, &outcome);
         outcomes.add(&outcome.answer.outcome());
         sorts.add(&format!("{:?}", sort));
@@ -193,7 +196,7 @@ fn run_list(list: &List, seed: u64, count: u64, folder: &str) -> u64 {
         sizes[9..=24].iter().sum::<u64>(),
         high
     );
-    behind.tell();
+    diodes.tell();
     moved.tell();
     for p in 0..5 {
         if compared[p] > 0 {
@@ -213,18 +216,21 @@ fn run_list(list: &List, seed: u64, count: u64, folder: &str) -> u64 {
     differing[..MUST_AGREE].iter().sum()
 }
 
-/// What a list has of diodes that are behind.
+/// What a list has of diodes: those that are behind, and the situations that they were in.
 #[derive(Default)]
-struct Behind {
+struct Diodes {
     /// Jobs in which a pass waited: DC runs, transients; and the passes that did.
     waited: [u64; 2],
     passes: u64,
     waited_to: Tally,
     /// Runs that name a diode: settled ones, others.
     named: [u64; 2],
+    /// How often each situation held, and the runs in which it did.
+    situations: Situations,
+    runs: Situations,
 }
 
-impl Behind {
+impl Diodes {
     fn add(&mut self, job: &Job, o: &sides::Outcome) {
         if o.beyond.held != 0 {
             self.waited[job.transient as usize] += 1;
@@ -232,11 +238,20 @@ impl Behind {
             self.waited_to.add(&o.answer.outcome());
         }
         self.named[(o.answer.verdict != 0) as usize] += (o.answer.behind != Some(0)) as u64;
+        for (k, times) in o.situations.into_iter().enumerate() {
+            self.situations[k] += times;
+            self.runs[k] += (times > 0) as u64;
+        }
     }
 
     fn tell(&self) {
         let [settled, others] = self.named;
         println!("  runs that name a diode: {} settled, {} others", settled, others);
+        let met = |(s, text): &(Situation, &str)| {
+            let k = *s as usize;
+            format!("{} {} in {} runs", text, self.situations[k], self.runs[k])
+        };
+        println!("  situations of diodes: {}", SITUATIONS.iter().map(met).collect::<Vec<_>>().join(", "));
         let [dc, transient] = self.waited;
         if dc + transient > 0 {
             println!(

@@ -10,7 +10,8 @@ use crate::exact;
 use crate::functions::STANDING_IN;
 use crate::generate;
 use crate::job::*;
-use crate::model::{self, Matrix, Sentence, State, Wrong, SENTENCES, WRONG_PATTERN};
+use crate::limits::{self, Call};
+use crate::model::{self, Asked, Matrix, Sentence, State, Wrong, SENTENCES, WRONG_PATTERN};
 use crate::oracle::{hooked, plain};
 use crate::random::Random;
 use crate::sides::OURS;
@@ -34,7 +35,8 @@ impl Trial {
 
 type Draw = fn(&mut Random) -> Trial;
 
-const LEAVES: [(&str, Draw); 11] = [
+/// A leaf's place is part of its seed: a new one goes to the end.
+const LEAVES: [(&str, Draw); 12] = [
     ("solve", solve),
     ("convergence", convergence),
     ("pattern", pattern),
@@ -46,6 +48,7 @@ const LEAVES: [(&str, Draw); 11] = [
     ("behind", late),
     ("patterns away from zero, off", away_off),
     ("patterns away from zero, on", away_on),
+    ("diode at its edges", diode_at_edges),
 ];
 
 fn agree(a: &[f64], b: &[f64]) -> bool {
@@ -243,6 +246,12 @@ fn pattern(r: &mut Random) -> Trial {
     Trial::new(input, answers, sort_of(a))
 }
 
+/// Once in `n` the float next to it, on either side.
+fn beside(r: &mut Random, x: f64, n: usize) -> f64 {
+    let step = if r.one_in(n) { r.pick(&[1, u64::MAX]) } else { 0 };
+    f64::from_bits(x.to_bits().wrapping_add(step))
+}
+
 pub fn point_bytes(points: &[(f64, f64)]) -> Vec<u8> {
     points.iter().flat_map(|p| [p.0.to_le_bytes(), p.1.to_le_bytes()].concat()).collect()
 }
@@ -282,8 +291,7 @@ impl Away {
             12 => r.pick(&[0.0, -0.0, f64::NAN, f64::INFINITY, -0.5]),
             _ => times[r.below(8)],
         };
-        let beside = if r.one_in(5) { r.pick(&[1, u64::MAX]) } else { 0 };
-        let at = f64::from_bits(at.to_bits().wrapping_add(beside));
+        let at = beside(r, at, 5);
         let spare = if r.one_in(8) { 1 + r.below(15) } else { 0 };
         Away { points, delay, repeat, at, spare }
     }
@@ -385,25 +393,67 @@ fn diode(r: &mut Random) -> Trial {
         4 => memory + vt,
         _ => memory + vt * r.between(-900.0, 900.0) * r.unit(),
     };
-    // with 22 there is no model, and the memory stays the one handed in
-    let flat = |x: Result<(f64, f64, f64), f64>| match x {
-        Ok((g, i, m)) => vec![0.0, g, i, m],
-        Err(kept) => vec![22.0, 0.0, 0.0, kept],
+    diode_trial(Call { asked: Asked { i_sat, tdegc, v, memory }, o })
+}
+
+/// The same where situations meet: steps of two thermal voltages, an arg of 0, a memory of 0, the critical voltage, and the floats
+/// beside them. Thermal voltages are mostly 1 or -1, so that these come out exactly.
+fn diode_at_edges(r: &mut Random) -> Trial {
+    let mut o = Options::usual();
+    o.boltzmann = match r.below(12) {
+        0 => r.special(),
+        1 => r.decades(-3.0, 3.0),
+        2 | 3 => r.pick(&[0.5, 0.25, 4.0]),
+        _ => 1.0,
     };
-    let a = flat(model::diode(i_sat, tdegc, v, memory, &o, &OURS, Wrong::Nothing).ok_or(memory));
-    let b = flat(hooked::diode(i_sat, tdegc, v, memory, &o, &OURS));
-    let sort = if a[0] == 22.0 { "verdict 22" } else { "linearized" };
-    let mut answers = vec![("model", a), ("Rust", b)];
-    let numbers = |(verdict, [g, i, m]): (u64, [f64; 3])| vec![verdict as f64, g, i, m];
-    answers.extend(door::diode(i_sat, tdegc, v, memory, &o).map(|d| ("shipped", numbers(d))));
-    Trial::new(
-        format!(
-            "i_sat {:?}, tdegc {:?}, v {:?}, memory {:?}, gmin {:?}, thermal voltage {:?}",
-            i_sat, tdegc, v, memory, o.gmin, vt
-        ),
-        answers,
-        sort.to_string(),
-    )
+    o.charge = r.pick(&[1.0, 1.0, 1.0, -1.0]);
+    let tdegc = r.pick(&[-362.0, -362.0, -362.0, -362.0, -364.0]);
+    let vt = o.boltzmann * (363.0 + tdegc) / o.charge;
+    let i_sat = match r.below(10) {
+        0 => r.special(),
+        1 => -vt,
+        2 | 3 => 10.0 * vt,
+        4..=6 => limits::ROOT_HALF * vt,
+        _ => r.decades(-14.0, 0.0) * vt,
+    };
+    let critical = limits::critical(vt, i_sat);
+    let memory = edge_memory(r, vt, critical);
+    let v = edge_voltage(r, vt, critical, memory);
+    diode_trial(Call { asked: Asked { i_sat, tdegc, v: beside(r, v, 3), memory }, o })
+}
+
+const ABOUT_ZERO: [f64; 4] = [0.0, -0.0, 5e-324, -5e-324];
+
+fn edge_memory(r: &mut Random, vt: f64, critical: f64) -> f64 {
+    match r.below(12) {
+        0..=3 => r.pick(&ABOUT_ZERO),
+        4 => r.special(),
+        5 => critical,
+        6..=8 => vt * r.between(-5.0, 20.0),
+        _ => r.below(17) as f64 - 4.0,
+    }
+}
+
+fn edge_voltage(r: &mut Random, vt: f64, critical: f64, memory: f64) -> f64 {
+    match r.below(12) {
+        0 => r.special(),
+        1 => r.pick(&ABOUT_ZERO),
+        2 | 3 => memory + 2.0 * vt,
+        4 | 5 => memory - 2.0 * vt,
+        6 => memory - vt,
+        7 | 8 => critical,
+        9 | 10 => memory + r.below(25) as f64 - 12.0,
+        _ => memory + vt * r.between(-30.0, 60.0),
+    }
+}
+
+/// A call of a diode by the situation that it is in.
+fn diode_trial(call: Call) -> Trial {
+    let sides = call.sides();
+    let ended = if sides[0].1[0] == 22.0 { "verdict 22" } else { "linearized" };
+    let sort = format!("{}, {}", call.situation_text(), ended);
+    let answers = sides.into_iter().map(|(side, numbers)| (side, numbers.to_vec())).collect();
+    Trial { input: call.words(), answers, sort, tells: call.tells() }
 }
 
 /// A sine source alone, in one step of a transient: its value stands on the system's right side.

@@ -13,6 +13,7 @@ mod generate;
 mod job;
 mod jobs;
 mod leaves;
+mod limits;
 mod list;
 mod model;
 mod netlist;

@@ -85,6 +85,37 @@ pub enum Wrong {
     FirstAlways,
     FirstByCatchup,
     CatchupByFirst,
+    // of the diode's limiting rule: which situation holds, in which order they are asked, and each one's formula
+    LimitOneThermal,
+    LimitStepWithoutSize,
+    LimitTwoThermalOfVoltage,
+    LimitNanStepSmall,
+    LimitCriticalAtMost,
+    LimitCriticalOfMemory,
+    LimitNanCriticalPasses,
+    LimitMemoryBelow,
+    LimitMemoryBySign,
+    LimitTurnOnOfVoltage,
+    LimitNanMemoryTurnsOn,
+    LimitNanArgFallsBack,
+    LimitChoiceWithoutOne,
+    LimitArgOfSize,
+    LimitTurnOnBeforeSmall,
+    LimitTurnOnBeforeCritical,
+    LimitFallBackBeforeSmall,
+    LimitFallBackBeforeCritical,
+    LimitFallBackBeforeTurnOn,
+    LimitTurnOnPlusOne,
+    LimitTurnOnFromMemory,
+    LimitFallBackToMemory,
+    LimitFallBackToVoltage,
+    LimitFallBackToZero,
+    LimitClimbFromCritical,
+    LimitClimbWithoutOne,
+    LimitTurnOnFallBackExchanged,
+    LimitTurnOnClimbExchanged,
+    LimitFallBackClimbExchanged,
+    LimitMemoryAsked,
 }
 
 pub const WRONG: &[(Wrong, &str)] = &[
@@ -170,6 +201,42 @@ pub const WRONG_WORD: &[(Wrong, &str)] = &[
     (Wrong::FirstAlways, "the option is on when it is 0"),
     (Wrong::FirstByCatchup, "the word of the other option is read"),
     (Wrong::CatchupByFirst, "the other option reads this one's word"),
+];
+
+/// Readings of the diode's limiting rule: what a single call of a diode shows. The first two are document 01's too.
+pub const WRONG_LIMIT: &[(Wrong, &str)] = &[
+    (Wrong::TwoThermalBelow, "a step of exactly two thermal voltages is limited"),
+    (Wrong::ArgBelowZero, "arg < 0 for arg <= 0"),
+    (Wrong::LimitOneThermal, "a small step is within one thermal voltage"),
+    (Wrong::LimitStepWithoutSize, "a small step is asked without its size, so that every step down is small"),
+    (Wrong::LimitTwoThermalOfVoltage, "the voltage itself is asked for two thermal voltages, not the step"),
+    (Wrong::LimitNanStepSmall, "a NaN step is small"),
+    (Wrong::LimitCriticalAtMost, "v <= the critical voltage is below it"),
+    (Wrong::LimitCriticalOfMemory, "the memory is asked whether it is below critical, not v"),
+    (Wrong::LimitNanCriticalPasses, "without a critical voltage every v passes"),
+    (Wrong::LimitMemoryBelow, "a turn-on is memory < 0"),
+    (Wrong::LimitMemoryBySign, "the sign bit of the memory decides: 0.0 is no turn-on, -0.0 is one"),
+    (Wrong::LimitTurnOnOfVoltage, "v is asked whether it is above zero, not the memory"),
+    (Wrong::LimitNanMemoryTurnsOn, "a NaN memory is a turn-on"),
+    (Wrong::LimitNanArgFallsBack, "a NaN arg falls back"),
+    (Wrong::LimitChoiceWithoutOne, "a fall back is asked of the step in thermal voltages, without the one"),
+    (Wrong::LimitArgOfSize, "arg has the step's size"),
+    (Wrong::LimitTurnOnBeforeSmall, "a turn-on is asked before a small step"),
+    (Wrong::LimitTurnOnBeforeCritical, "a turn-on is asked before below critical"),
+    (Wrong::LimitFallBackBeforeSmall, "a fall back is asked before a small step"),
+    (Wrong::LimitFallBackBeforeCritical, "a fall back is asked before below critical"),
+    (Wrong::LimitFallBackBeforeTurnOn, "a fall back is asked before a turn-on"),
+    (Wrong::LimitTurnOnPlusOne, "a turn-on takes vt ln(1 + v / vt), as in SPICE"),
+    (Wrong::LimitTurnOnFromMemory, "a turn-on starts from the memory"),
+    (Wrong::LimitFallBackToMemory, "a fall back takes the memory"),
+    (Wrong::LimitFallBackToVoltage, "a fall back takes v"),
+    (Wrong::LimitFallBackToZero, "a fall back takes 0"),
+    (Wrong::LimitClimbFromCritical, "a climb starts from the critical voltage"),
+    (Wrong::LimitClimbWithoutOne, "a climb's logarithm is without the one"),
+    (Wrong::LimitTurnOnFallBackExchanged, "the formulas of turn-on and fall back are exchanged"),
+    (Wrong::LimitTurnOnClimbExchanged, "the formulas of turn-on and climb are exchanged"),
+    (Wrong::LimitFallBackClimbExchanged, "the formulas of fall back and climb are exchanged"),
+    (Wrong::LimitMemoryAsked, "the memory is the voltage asked for, not the limited one"),
 ];
 
 pub const MOST_UNKNOWNS: u128 = 48;
@@ -417,51 +484,199 @@ pub fn capacitor(value: f64, v: f64, step: f64) -> (f64, f64) {
     (g, g * v)
 }
 
+/// What a diode is asked: its saturation current and temperature, the voltage that it is to stand at, and its memory, the voltage
+/// that it last stood at.
+#[derive(Clone, Copy)]
+pub struct Asked {
+    pub i_sat: f64,
+    pub tdegc: f64,
+    pub v: f64,
+    pub memory: f64,
+}
+
+/// The situations of the limiting rule.
+#[derive(Clone, Copy, PartialEq, Debug)]
+pub enum Situation {
+    BelowCritical,
+    SmallStep,
+    TurnOn,
+    FallBack,
+    Climb,
+}
+
+use Situation::*;
+
+/// As they are named and counted: the first that holds, a small step before all others.
+pub const SITUATIONS: [(Situation, &str); 5] = [
+    (SmallStep, "small step"),
+    (BelowCritical, "below critical"),
+    (TurnOn, "turn-on"),
+    (FallBack, "fall back"),
+    (Climb, "climb"),
+];
+
+/// So many of each, by its place in the type.
+pub type Situations = [u64; 5];
+
+/// The order in which the shipped code asks.
+const SMALL_STEP_FIRST: [Situation; 4] = [SmallStep, BelowCritical, TurnOn, FallBack];
+
+/// The order in which the Rust asks, and so the model. Below critical and within a small step v passes alike.
+const BELOW_CRITICAL_FIRST: [Situation; 4] = [BelowCritical, SmallStep, TurnOn, FallBack];
+
 /// A diode's conductance, current and limited voltage; None where its current is not finite.
-pub fn diode(
-    i_sat: f64,
-    tdegc: f64,
-    v: f64,
-    memory: f64,
-    o: &Options,
-    f: &Functions,
+pub type Companion = Option<(f64, f64, f64)>;
+
+/// One call of a diode: "choose first which of the five situations holds, then work out one formula for it".
+pub struct Diode<'a> {
+    pub vt: f64,
+    pub critical: f64,
+    asked: Asked,
+    delta: f64,
+    o: &'a Options,
+    f: &'a Functions,
     wrong: Wrong,
-) -> Option<(f64, f64, f64)> {
-    let vt = o.boltzmann * (363.0 + tdegc) / o.charge;
-    let root2 = f64::from_bits(0x3FF6A09E667F3BCD);
-    let critical = vt * (f.ln)(vt / (root2 * i_sat));
-    let delta = v - memory;
-    let within = if wrong == Wrong::TwoThermalBelow { delta.abs() < 2.0 * vt } else { delta.abs() <= 2.0 * vt };
-    let limited = if v < critical || within {
-        v
-    } else if memory <= 0.0 {
-        vt * (f.ln)(v / vt)
-    } else {
-        let arg = 1.0 + delta / vt;
-        let out = if wrong == Wrong::ArgBelowZero { arg < 0.0 } else { arg <= 0.0 };
-        if out {
-            critical
-        } else {
-            memory + vt * (f.ln)(arg)
+}
+
+impl<'a> Diode<'a> {
+    pub fn new(asked: Asked, o: &'a Options, f: &'a Functions, wrong: Wrong) -> Diode<'a> {
+        let vt = o.boltzmann * (363.0 + asked.tdegc) / o.charge;
+        let root2 = f64::from_bits(0x3FF6A09E667F3BCD);
+        let critical = vt * (f.ln)(vt / (root2 * asked.i_sat));
+        Diode { vt, critical, asked, delta: asked.v - asked.memory, o, f, wrong }
+    }
+
+    /// The situation as it is named.
+    pub fn named(&self) -> Situation {
+        self.first(SMALL_STEP_FIRST)
+    }
+
+    /// A small step that is below critical too: the only calls that the two orders name otherwise.
+    pub fn named_otherwise(&self) -> bool {
+        self.named() != self.first(BELOW_CRITICAL_FIRST)
+    }
+
+    /// The companion model by the Rust's order, or by a wrong reading's.
+    pub fn companion(&self) -> Companion {
+        self.companion_by(match self.wrong {
+            Wrong::LimitTurnOnBeforeSmall => [BelowCritical, TurnOn, SmallStep, FallBack],
+            Wrong::LimitTurnOnBeforeCritical => [SmallStep, TurnOn, BelowCritical, FallBack],
+            Wrong::LimitFallBackBeforeSmall => [BelowCritical, FallBack, SmallStep, TurnOn],
+            Wrong::LimitFallBackBeforeCritical => [SmallStep, FallBack, BelowCritical, TurnOn],
+            Wrong::LimitFallBackBeforeTurnOn => [BelowCritical, SmallStep, FallBack, TurnOn],
+            _ => BELOW_CRITICAL_FIRST,
+        })
+    }
+
+    /// The same by the shipped code's order; nobody can tell them apart.
+    pub fn companion_small_step_first(&self) -> Companion {
+        self.companion_by(SMALL_STEP_FIRST)
+    }
+
+    fn companion_by(&self, order: [Situation; 4]) -> Companion {
+        let situation = self.first(order);
+        self.companion_at(self.misread(situation).unwrap_or_else(|| self.voltage(situation)))
+    }
+
+    /// The first that holds, and a climb where none of the others does.
+    fn first(&self, order: [Situation; 4]) -> Situation {
+        let holds = |s: &Situation| self.misheld(*s).unwrap_or_else(|| self.holds(*s));
+        order.into_iter().find(holds).unwrap_or(Climb)
+    }
+
+    fn holds(&self, situation: Situation) -> bool {
+        match situation {
+            BelowCritical => self.asked.v < self.critical,
+            SmallStep => self.delta.abs() <= 2.0 * self.vt,
+            TurnOn => self.asked.memory <= 0.0,
+            FallBack => self.arg() <= 0.0,
+            Climb => true,
         }
-    };
-    let power = (f.exp)(limited / vt);
-    let current = i_sat * (power - 1.0);
-    if !current.is_finite() {
-        return None;
     }
-    let mut g = (i_sat / vt) * power;
-    if g < o.gmin || (wrong == Wrong::GminOverNan && g.is_nan()) {
-        g = o.gmin;
+
+    /// Whether a situation holds by a wrong reading of it.
+    fn misheld(&self, situation: Situation) -> Option<bool> {
+        let Diode { vt, critical, delta, asked: Asked { v, memory, .. }, .. } = *self;
+        Some(match (situation, self.wrong) {
+            (SmallStep, Wrong::TwoThermalBelow) => delta.abs() < 2.0 * vt,
+            (SmallStep, Wrong::LimitOneThermal) => delta.abs() <= vt,
+            (SmallStep, Wrong::LimitStepWithoutSize) => delta <= 2.0 * vt,
+            (SmallStep, Wrong::LimitTwoThermalOfVoltage) => v.abs() <= 2.0 * vt,
+            (SmallStep, Wrong::LimitNanStepSmall) => !(delta.abs() > 2.0 * vt),
+            (BelowCritical, Wrong::LimitCriticalAtMost) => v <= critical,
+            (BelowCritical, Wrong::LimitCriticalOfMemory) => memory < critical,
+            (BelowCritical, Wrong::LimitNanCriticalPasses) => !(v >= critical),
+            (TurnOn, Wrong::LimitMemoryBelow) => memory < 0.0,
+            (TurnOn, Wrong::LimitMemoryBySign) => memory <= 0.0 && memory.is_sign_negative(),
+            (TurnOn, Wrong::LimitTurnOnOfVoltage) => v <= 0.0,
+            (TurnOn, Wrong::LimitNanMemoryTurnsOn) => !(memory > 0.0),
+            (FallBack, Wrong::ArgBelowZero) => self.arg() < 0.0,
+            (FallBack, Wrong::LimitNanArgFallsBack) => !(self.arg() > 0.0),
+            (FallBack, Wrong::LimitChoiceWithoutOne) => delta / vt <= 0.0,
+            _ => return None,
+        })
     }
-    let i = current - g * limited;
-    if wrong == Wrong::ConductanceMustBeFinite && !g.is_finite() {
-        return None;
+
+    /// The limited voltage of a situation.
+    fn voltage(&self, situation: Situation) -> f64 {
+        let Diode { vt, asked: Asked { v, memory, .. }, .. } = *self;
+        match situation {
+            BelowCritical | SmallStep => v,
+            TurnOn => vt * (self.f.ln)(v / vt),
+            FallBack => self.critical,
+            Climb => memory + vt * (self.f.ln)(self.arg()),
+        }
     }
-    if wrong == Wrong::CurrentMustBeFinite && !i.is_finite() {
-        return None;
+
+    /// The limited voltage by a wrong reading of the situation's formula.
+    fn misread(&self, situation: Situation) -> Option<f64> {
+        let Diode { vt, critical, delta, asked: Asked { v, memory, .. }, .. } = *self;
+        let ln = self.f.ln;
+        Some(match (situation, self.wrong) {
+            (TurnOn, Wrong::LimitTurnOnPlusOne) => vt * ln(1.0 + v / vt),
+            (TurnOn, Wrong::LimitTurnOnFromMemory) => memory + vt * ln(v / vt),
+            (FallBack, Wrong::LimitFallBackToMemory) => memory,
+            (FallBack, Wrong::LimitFallBackToVoltage) => v,
+            (FallBack, Wrong::LimitFallBackToZero) => 0.0,
+            (Climb, Wrong::LimitClimbFromCritical) => critical + vt * ln(self.arg()),
+            (Climb, Wrong::LimitClimbWithoutOne) => memory + vt * ln(delta / vt),
+            (TurnOn, Wrong::LimitTurnOnFallBackExchanged) => self.voltage(FallBack),
+            (FallBack, Wrong::LimitTurnOnFallBackExchanged) => self.voltage(TurnOn),
+            (TurnOn, Wrong::LimitTurnOnClimbExchanged) => self.voltage(Climb),
+            (Climb, Wrong::LimitTurnOnClimbExchanged) => self.voltage(TurnOn),
+            (FallBack, Wrong::LimitFallBackClimbExchanged) => self.voltage(Climb),
+            (Climb, Wrong::LimitFallBackClimbExchanged) => self.voltage(FallBack),
+            _ => return None,
+        })
     }
-    Some((g, i, limited))
+
+    /// One and the step in thermal voltages: what a climb takes the logarithm of.
+    fn arg(&self) -> f64 {
+        let step = if self.wrong == Wrong::LimitArgOfSize { self.delta.abs() } else { self.delta };
+        1.0 + step / self.vt
+    }
+
+    /// The companion model at the limited voltage.
+    fn companion_at(&self, limited: f64) -> Companion {
+        let Diode { vt, o, wrong, asked: Asked { i_sat, v, .. }, .. } = *self;
+        let power = (self.f.exp)(limited / vt);
+        let current = i_sat * (power - 1.0);
+        if !current.is_finite() {
+            return None;
+        }
+        let mut g = (i_sat / vt) * power;
+        if g < o.gmin || (wrong == Wrong::GminOverNan && g.is_nan()) {
+            g = o.gmin;
+        }
+        let i = current - g * limited;
+        if wrong == Wrong::ConductanceMustBeFinite && !g.is_finite() {
+            return None;
+        }
+        if wrong == Wrong::CurrentMustBeFinite && !i.is_finite() {
+            return None;
+        }
+        Some((g, i, if wrong == Wrong::LimitMemoryAsked { v } else { limited }))
+    }
 }
 
 /// A sine source's value; None where the sine is refused.
@@ -686,6 +901,7 @@ struct Run<'a> {
     before: (Vec<f64>, Vec<f64>),
     passes: u64,
     beyond: Beyond,
+    situations: Situations,
     rows: Vec<f64>,
     row_count: u64,
     room: u64,
@@ -782,8 +998,10 @@ impl<'a> Run<'a> {
             }
             let (a, b) = (e.a as usize, e.b as usize);
             let v = self.vector[a] - self.vector[b];
-            let (g, i, limited) =
-                diode(e.value[0], e.value[1], v, self.memory[k], &self.o, self.f, self.wrong).ok_or(22u64)?;
+            let asked = Asked { i_sat: e.value[0], tdegc: e.value[1], v, memory: self.memory[k] };
+            let d = Diode::new(asked, &self.o, self.f, self.wrong);
+            self.situations[d.named() as usize] += 1;
+            let (g, i, limited) = d.companion().ok_or(22u64)?;
             self.memory[k] = limited;
             m.current(a, b, i);
             m.companion(a, b, g, self.wrong);
@@ -994,10 +1212,16 @@ pub fn run(job: &Job, f: &Functions, wrong: Wrong) -> Answer {
 
 /// The whole call, and what it did that the Rust never does.
 pub fn run_beyond(job: &Job, f: &Functions, wrong: Wrong) -> (Answer, Beyond) {
+    let (answer, beyond, _) = run_counted(job, f, wrong);
+    (answer, beyond)
+}
+
+/// The same, and how often a diode was in each situation.
+pub fn run_counted(job: &Job, f: &Functions, wrong: Wrong) -> (Answer, Beyond, Situations) {
     let (number, place) = refusal(job);
     let mut answer = Answer::refused(job, number, place);
     if number != 0 {
-        return (answer, Beyond::default());
+        return (answer, Beyond::default(), [0; 5]);
     }
     let n = (job.nodes + job.sources) as usize;
     let elements = job.elements();
@@ -1024,6 +1248,7 @@ pub fn run_beyond(job: &Job, f: &Functions, wrong: Wrong) -> (Answer, Beyond) {
         memory,
         passes: 0,
         beyond: Beyond::default(),
+        situations: [0; 5],
         rows: Vec::new(),
         row_count: 0,
         room: (job.lengths[ROWS] / (n + 1)) as u64,
@@ -1052,5 +1277,5 @@ pub fn run_beyond(job: &Job, f: &Functions, wrong: Wrong) -> (Answer, Beyond) {
     for (buffer, part) in parts.iter() {
         answer.buffers[*buffer][..part.len()].copy_from_slice(part);
     }
-    (answer, run.beyond)
+    (answer, run.beyond, run.situations)
 }

@@ -4,7 +4,7 @@
 use crate::compare::*;
 use crate::door;
 use crate::job::*;
-use crate::model::{self, Beyond, Wrong};
+use crate::model::{self, Beyond, Situations, Wrong};
 use crate::oracle::{hooked, plain};
 use recorder::LIBRARY;
 
@@ -29,6 +29,8 @@ pub struct Outcome {
     /// Its passes that waited for a diode, and its patterns that the option moved: where there is one the Rust, which knows neither
     /// option, has no answer.
     pub beyond: Beyond,
+    /// How often a diode of it was in each situation.
+    pub situations: Situations,
     /// Demand 2's domain: not refused, nothing beyond the Rust, the Rust's own numbers, verdict 0, 20, 21 or 23.
     pub domain: bool,
     /// Per pair: None where it was not compared.
@@ -40,7 +42,7 @@ fn in_domain(verdict: u64) -> bool {
 }
 
 pub fn run(job: &Job) -> Outcome {
-    let (answer, beyond) = model::run_beyond(job, &OURS, Wrong::Nothing);
+    let (answer, beyond, situations) = model::run_counted(job, &OURS, Wrong::Nothing);
     let door = door::run(job);
     let mut pairs = [None, None, None, None, None];
     pairs[0] = door.as_ref().map(|d| compare(job, d, &answer, ALL));
@@ -61,5 +63,5 @@ pub fn run(job: &Job) -> Outcome {
             }
         }
     }
-    Outcome { answer, beyond, domain, pairs }
+    Outcome { answer, beyond, situations, domain, pairs }
 }
