@@ -61,6 +61,7 @@ impl Proved for f64 {
     }
 }
 
+use std::collections::HashSet;
 use std::convert::TryInto;
 use std::fs;
 use std::panic;
@@ -69,7 +70,7 @@ const PATTERNS: usize = 1200;
 const PATTERNS_FIRST: usize = 900;
 const CAPACITORS: usize = 600;
 const DIODES: usize = 1000;
-const SITUATIONS: usize = 1000;
+const SITUATIONS: usize = 1200;
 const SINES: usize = 600;
 
 /// A row of numbers, as it is written.
@@ -396,9 +397,15 @@ fn situated(constants: [f64; 3], i_sat: f64, tdegc: f64, v: f64, memory: f64) ->
     row.count(number)
 }
 
-/// Floats beside x, and x.
-fn beside(x: f64) -> [f64; 3] {
-    [x, f64::from_bits(x.to_bits().wrapping_add(1)), f64::from_bits(x.to_bits().wrapping_sub(1))]
+/// The float next to x, up or down; an infinity and a NaN have none.
+fn next(x: f64, up: bool) -> f64 {
+    let least = f64::from_bits(1);
+    let away = (x > 0.0) == up;
+    match x {
+        x if !x.is_finite() => x,
+        x if x == 0.0 => if up { least } else { -least },
+        x => f64::from_bits(if away { x.to_bits() + 1 } else { x.to_bits() - 1 }),
+    }
 }
 
 /// Every edge from both sides: steps of two thermal voltages up and down, an argument of 0, the critical voltage, and memories beside either zero; then infinities and NaN.
@@ -407,12 +414,13 @@ fn known_situations() -> Vec<Row> {
     let level = f64::from_bits(0x3fe6a09e667f3bcc);
     let least = f64::from_bits(1);
     let mut rows = vec![];
-    for &(vt, i_sat) in &[(1.0, level), (1.0, 10.0), (0.03125, 1e-12), (-1.0, -level), (-1.0, level)] {
+    let diodes = [(1.0, level), (1.0, 10.0), (0.03125, 1e-12), (-1.0, -level), (-1.0, level), (1.0, 0.0), (1.0, f64::INFINITY)];
+    for &(vt, i_sat) in &diodes {
         circuit::CONSTANTS.with(|c| c.set(exactly(1e-12, vt)));
         let critical = diode::Diode::new("D", 0, 0, i_sat, -362.0).v_crit;
         for &memory in &[0.0, -0.0, least, -least, 1.0, 5.0, -1.0, f64::INFINITY, f64::NAN] {
             let edges = [memory + 2.0 * vt, memory - 2.0 * vt, memory - vt, critical];
-            let near = edges.iter().flat_map(|x| beside(*x).to_vec());
+            let near = edges.iter().flat_map(|x| vec![*x, next(*x, true), next(*x, false)]);
             let far = vec![2.0, 3.0, 9.0, -2.5, f64::INFINITY, f64::NEG_INFINITY, f64::NAN];
             rows.extend(near.chain(far).map(|v| situated(exactly(1e-12, vt), i_sat, -362.0, v, memory)));
         }
@@ -424,7 +432,8 @@ fn known_situations() -> Vec<Row> {
             }
         }
     }
-    rows
+    let mut seen = HashSet::new();
+    rows.into_iter().filter(|r| seen.insert(r.0.clone())).collect()
 }
 
 /// A usual diode at voltages that reach every situation.

@@ -25,7 +25,7 @@ resting last = le last nought
 abbrev pub argument : Float → Float → Float → Float
 argument vt v last = one ⊕ (v ⊖ last) ⊘ vt
 
--- the step goes down so far that this is zero or below; the Rust: arg <= 0.0
+-- that is zero or below: at a thermal voltage above zero, a step far down; the Rust: arg <= 0.0
 abbrev pub falling : Float → Float → Float → Bool
 falling vt v last = le (argument vt v last) nought
 

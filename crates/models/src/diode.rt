@@ -12,8 +12,9 @@ pub enum Linear {
     NotFinite,
 }
 
-// The situation of a diode that last stood at v_d_prev and is now asked to stand at v_hat; v_delta is v_hat - v_d_prev. A situation holds where its sentence does
-// and no sentence above it does, so that exactly one holds for any numbers; under the sentence stands the Rust's own condition. docs/DIODE.md has a picture.
+// The situation of a diode that last stood at v_d_prev and is now asked to stand at v_hat; v_delta is v_hat - v_d_prev. A situation holds where its condition does
+// and none above it does, so that exactly one holds for any numbers. Over each stands when that is, and the Rust's own condition; "up" and "down" are for a thermal
+// voltage above zero, as a diode warmer than -363 C has. docs/DIODE.md has a picture.
 pub enum Situation {
     // The step, up or down, is at most two thermal voltages.
     // Rust: v_delta.abs() <= 2.0 * self.v_thermal
@@ -24,10 +25,10 @@ pub enum Situation {
     // The diode was not forward biased: its last voltage was zero or below.
     // Rust: v_d_prev <= 0.0
     TurnOn,
-    // The step goes down so far that arg, one plus the step counted in thermal voltages, is zero or below and has no logarithm.
+    // A step far down: arg, one plus the step counted in thermal voltages, is zero or below and has no logarithm.
     // Rust: arg <= 0.0
     FallBack { v_crit: f64 },
-    // All others: the diode was forward biased and is to go up by more than two thermal voltages, or a NaN is among the numbers.
+    // All others: the diode was forward biased and goes up by more than two thermal voltages, or a NaN is among the numbers.
     // Rust: else
     Climb { arg: f64 },
 }

@@ -4,7 +4,6 @@ use mathlib.Core.Bool.{true}
 use mathlib.Core.List.{List, [], _∷_, map}
 use lib.Count.{leadingZeros}
 use lib.Ieee.{Float, nan, binary64, ofBits, size, add, sub, mul, div, neg, lt, le}
-use lib.Ieee.Scale.{finite}
 use Rattle.num.specs.Floats.{nought, absoluteOf}
 use Rattle.num.specs.Literals.{half, one, two, three, four, five, minusOne, minusZero, infinity}
 use Rattle.functions.specs.Exp.{expOf}
@@ -78,6 +77,15 @@ case-infinite : situations one nought ((infinity, nought) ∷ (infinity, one) �
 unfolding situationOf absoluteOf ofBits add sub mul div neg lt le
 case-infinite = refl
 
+-- below an infinite critical voltage is every finite one; above minus infinity every number is
+case-infinite-critical : situations one infinity ((nine, one) ∷ (infinity, one) ∷ (nine, nan) ∷ []) ≡ BelowCritical ∷ Climb infinity ∷ BelowCritical ∷ []
+unfolding situationOf absoluteOf ofBits add sub mul div neg lt le
+case-infinite-critical = refl
+
+case-minus-infinite-critical : situations one (neg infinity) ((neg five, one) ∷ (neg five, nought) ∷ (neg infinity, one) ∷ []) ≡ FallBack (neg infinity) ∷ TurnOn ∷ FallBack (neg infinity) ∷ []
+unfolding situationOf absoluteOf ofBits add sub mul div neg lt le
+case-minus-infinite-critical = refl
+
 -- without a critical voltage, as with a saturation current below zero, no diode is below it
 case-no-critical : situations one nan ((minusOne, five) ∷ (minusOne, neg five) ∷ (five, one) ∷ (two, one) ∷ []) ≡ FallBack nan ∷ TurnOn ∷ Climb five ∷ SmallStep ∷ []
 unfolding situationOf absoluteOf ofBits add sub mul div neg lt le
@@ -131,5 +139,5 @@ unfolding situationOf critical absoluteOf lnOf lnPositive lnAnswer lnSize lnWord
 case-order = refl
 
 case-order-ends : modelAt nought ten one (limited one (critical one ten) minusTwoHalf nought) ≡ NotFinite
-unfolding modelAt limited critical absoluteOf lnOf lnPositive lnAnswer lnSize lnWord zWord horner rounded packed leadingZeros ofBits size add sub mul div neg lt le expOf finite
+unfolding modelAt limited critical absoluteOf lnOf lnPositive lnAnswer lnSize lnWord zWord horner rounded packed leadingZeros ofBits size add sub mul div neg lt le expOf
 case-order-ends = refl

@@ -104,10 +104,10 @@ nan-limited vt vcrit last = limited-chosen vt vcrit nan last ∙ ap (λ (s : Sit
 
 -- at a NaN there is no model
 pub nan-model : (gmin isat vt : Float) → modelAt gmin isat vt nan ≡ NotFinite
-unfolding modelAt div sub add finite
+unfolding modelAt div sub add
 nan-model gmin isat vt = rw (exp-nan, times-nan isat)
 
--- so a diode that is asked to stand at a NaN ends the run by 22, whatever it remembers
+-- so a diode that is asked to stand at a NaN has no model, which is 22, whatever it remembers
 pub nan-ends : (o : Options) (isat tdegc last : Float) → linearized o isat tdegc nan last ≡ NotFinite
 unfolding linearized
 nan-ends o isat tdegc last = rw (nan-limited (thermal o tdegc) (critical (thermal o tdegc) isat) last) (nan-model (o .gmin) isat (thermal o tdegc))
@@ -123,7 +123,7 @@ number-left gmin isat vt nan last h = rw (nan-model gmin isat vt) h
 number-left gmin isat vt (inf s) last h = number-kept (finite (isat ⊗ (expOf (inf s ⊘ vt) ⊖ one))) _ _ (inf s) last refl h
 number-left gmin isat vt (fin s m e) last h = number-kept (finite (isat ⊗ (expOf (fin s m e ⊘ vt) ⊖ one))) _ _ (fin s m e) last refl h
 
--- so a diode that remembers a number never comes to remember a NaN
+-- so a diode that remembers a number is left none but a number to remember
 pub number-remembered : (o : Options) (isat tdegc v last : Float) → isNan last ≡ false → isNan (numbersOf last (linearized o isat tdegc v last) .memory) ≡ false
 unfolding linearized
 number-remembered o isat tdegc v last h = number-left (o .gmin) isat (thermal o tdegc) (limited (thermal o tdegc) (critical (thermal o tdegc) isat) v last) last h
