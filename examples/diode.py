@@ -1,10 +1,10 @@
 #!/usr/bin/env python3
 """A diode that meets all five situations of its limiting rule, one after the other: writes examples/diode.jobs, which ./savrunte runs (docs/DIODE.md, docs/FORMATS.md).
 
-12 V through 20 ohm onto a line with two diodes at 27 C: one of 1e-12 A to a supply of 2 V, one of 1e-14 A to ground. Both are pulled up at first, and the first one begins to carry the current.
-Then the second one does: the line falls, and the first diode is off in the end.
+12 V through 20 ohm to node 2, and from there two diodes at 27 C: one of 1e-12 A to a supply of 2 V, one of 1e-14 A to ground. Both are pulled up at first, and the first one begins to carry the current.
+Then the second one does: node 2 falls, and the first diode is off in the end.
 
-Nodes: 0 ground, 1 the 12 V, 2 the line, 3 the 2 V. Sources: 0 the 12 V, 1 the 2 V. The first diode is the first record, so that it is the one that the program names where both are behind.
+Nodes: 0 ground, 1 the 12 V, 2 where the diodes meet, 3 the 2 V. Sources: 0 the 12 V, 1 the 2 V. The first diode is the first record, so that it is the one that the program names where both are behind.
 
 Jobs: 0 to 8 end after 1 to 9 passes (ITL1 is one less) and show what that pass left; 9 runs until it settles.
 """

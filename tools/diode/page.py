@@ -23,7 +23,7 @@ def numbers(answer):
     """The two voltages of the diode, and what it does at the critical one: the answer must be one that was taken there."""
     thermal, critical, g, i = (float(answer[name]) for name in ('thermal', 'critical', 'g', 'i'))
     rows = [('thermal voltage, vt', f'{thermal!r} V'), ('critical voltage, vcrit', f'{critical!r} V')]
-    rows += [('current at vcrit', f'{i + g * critical:.5f} A'), ('slope of the line at vcrit', f'{g:.5f} A for a volt')]
+    rows += [('current at vcrit', f'{i + g * critical:.5f} A'), ('slope of the curve at vcrit', f'{g:.5f} A for a volt')]
     return table(['a diode of 1e-12 A at 27 C', ''], rows)
 
 
@@ -53,7 +53,7 @@ def passes(thermal, critical):
 
 
 def sheet():
-    """What a person reads of some of the jobs: the heading, how it ended, and the line BEHIND; of the last one the voltage of the line."""
+    """What a person reads of some of the jobs: the heading, how it ended, and the line BEHIND; of the last one the voltage of node 2."""
     jobs = re.split(r'(?m)^(?=Job )', '\n'.join(lines_of('savrunte', JOBS)))[1:]
     shown = ['\n'.join(line for line in jobs[k].splitlines() if re.match('Job|verdict|BEHIND' + ('|node 2' if k == SHOWN[-1] else ''), line)) for k in SHOWN]
     return ''.join(f'    {line}\n' for line in '\n..\n'.join(shown).splitlines())

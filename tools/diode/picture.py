@@ -1,8 +1,8 @@
 #!/usr/bin/env python3
-"""Draws docs/diode.svg, the diode's line and the voltage asked for against the voltage taken, from the shipped code's answers: tools/diode/picture.py [--write]
+"""Draws docs/diode.svg, the diode's curve and the voltage asked for against the voltage taken, from the shipped code's answers: tools/diode/picture.py [--write]
 
-The numbers come from examples/diode.c over the C door. Each answer's situation is worked out anew (rule.py), and its formula must give the voltage that the shipped code took: so the colours are
-checked. Says whether docs/diode.svg is this picture and ends with 1 where it is not, or where an answer is not what its situation gives; --write puts it there.
+The numbers come from examples/diode.c over the C door. Each answer's situation is worked out anew (rule.py), and its formula must give the voltage that the shipped code took, up to
+the last bits of a logarithm: so a wrong colour shows, but for a small step beside below critical, which take the same voltage. Says whether docs/diode.svg is this picture and ends with 1 where it is not, or where an answer is not what its situation gives; --write puts it there.
 """
 import sys
 from collections import Counter, namedtuple
@@ -19,7 +19,7 @@ WIDTH, HEIGHT = 900, 440
 TOP_EDGE, BOTTOM_EDGE = 93.5, 368
 PANEL_WIDTH = 366
 USUAL = 1e-12  # the saturation current of the diode that is drawn
-STEP = 0.84, 1.1  # memory and voltage asked of the step on the diode's line
+STEP = 0.84, 1.1  # memory and voltage asked of the step on the diode's curve
 MEMORIES = 0.0, 1.2  # of the panel on the right
 GREY, BOLD = '#6b6b6b', {'weight': 'bold'}
 
@@ -71,11 +71,11 @@ class Panel:
             yield text(self.x(x), self.y(y) + 16 * k, words, anchor, **more)
 
 
-def diode_line(of_diode):
+def diode_curve(of_diode):
     """Current over voltage, one ampere as long as one volt, with one limited step."""
     p = Panel(62, (0.0, 1.4), (0.0, 1.05))
     fifths = [k / 5 for k in range(8)]
-    yield from p.axes('The diode’s line, and one limited step', '1e-12 A at 27 C; one ampere is as long as one volt', 'voltage, V', fifths, 'current, A', fifths[:6])
+    yield from p.axes('The diode’s curve, and one limited step', '1e-12 A at 27 C; one ampere is as long as one volt', 'voltage, V', fifths, 'current, A', fifths[:6])
     points = sorted({(a.taken, a.current) for a in of_diode if a.taken >= 0 and a.current <= p.y_range[1]})
     yield polyline([p.at(*point) for point in points], INK)
     yield from limited_step(p, {(a.memory, a.asked): a for a in of_diode})
@@ -97,7 +97,7 @@ def limited_step(p, by_question):
     yield from p.words(0.8, 0.12, [f'memory: {memory:.2f} V, {stands.current:.3f} A'], 'end')
     yield from p.words(0.83, 0.36, ['one thermal voltage', f'up, {1000 * stands.thermal:.1f} mV:', f'{up.current / stands.current:.2f} times the current'], 'end')
     yield from p.words(0.88, goes.current + 0.015, [f'taken, by a {goes.situation.words}:', f'{goes.taken:.3f} V, {goes.current:.2f} A'], 'end', **BOLD)
-    yield from p.words(0.98, goes.current + 0.18, [f'asked: {asked:.2f} V;', 'there the diode', f'takes {would.current:.0f} A'], **BOLD)
+    yield from p.words(0.98, goes.current + 0.18, [f'asked: {asked:.2f} V;', 'there it would', f'carry {would.current:.0f} A'], **BOLD)
 
 
 def asked_and_taken(of_diode):
@@ -136,8 +136,8 @@ def main():
     all_seen(counts, 'examples/diode.c')
     print('checked: ' + ', '.join(f'{counts[s]} {s.name}' for s in SITUATIONS))
     of_diode = [a for a in all_answers if a.i_sat == USUAL]
-    title = 'A diode: its line with one limited step, and the voltage asked for against the voltage taken in the five situations'
-    return compare(TOP / 'docs' / 'diode.svg', picture(WIDTH, HEIGHT, title, [*diode_line(of_diode), *asked_and_taken(of_diode)]))
+    title = 'A diode: its curve with one limited step, and the voltage asked for against the voltage taken in the five situations'
+    return compare(TOP / 'docs' / 'diode.svg', picture(WIDTH, HEIGHT, title, [*diode_curve(of_diode), *asked_and_taken(of_diode)]))
 
 
 if __name__ == '__main__':
