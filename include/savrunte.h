@@ -255,7 +255,8 @@ double savrunte_pattern_first(const uint8_t *points, size_t points_len, double t
 /* The companion model of a capacitor at voltage v over one step. */
 savrunte_companion savrunte_capacitor(double value, double v, double step);
 
-/* The companion model of a diode at voltage v, with what it remembers. */
+/* The companion model of a diode at voltage v, with what it remembers. It stands at v or at a voltage limited from it, which is the new
+ * memory: by one formula for each of five situations, which docs/DIODE.md explains. */
 savrunte_diode_answer savrunte_diode(double i_sat, double tdegc, double v, double memory, savrunte_options options);
 
 #ifdef __cplusplus

@@ -292,7 +292,8 @@ pub fn capacitor(value: f64, v: f64, step: f64) -> (f64, f64) {
     (r.g, r.i)
 }
 
-/// The companion model of a diode at voltage `v`, from what it remembers.
+/// The companion model of a diode at voltage `v`, from what it remembers. It stands at `v` or at a voltage limited from it, which is
+/// the new memory: by one formula for each of five situations, which docs/DIODE.md explains.
 pub fn diode(i_sat: f64, tdegc: f64, v: f64, memory: f64, options: Options) -> Diode {
     let r = unsafe { raw::savrunte_diode(i_sat, tdegc, v, memory, options) };
     if r.verdict != 0 {
