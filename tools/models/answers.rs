@@ -400,12 +400,14 @@ fn situated(constants: [f64; 3], i_sat: f64, tdegc: f64, v: f64, memory: f64) ->
 /// The float next to x, up or down; an infinity and a NaN have none.
 fn next(x: f64, up: bool) -> f64 {
     let least = f64::from_bits(1);
-    let away = (x > 0.0) == up;
-    match x {
-        x if !x.is_finite() => x,
-        x if x == 0.0 => if up { least } else { -least },
-        x => f64::from_bits(if away { x.to_bits() + 1 } else { x.to_bits() - 1 }),
+    if !x.is_finite() {
+        return x;
     }
+    if x == 0.0 {
+        return if up { least } else { -least };
+    }
+    let away = (x > 0.0) == up;
+    f64::from_bits(if away { x.to_bits() + 1 } else { x.to_bits() - 1 })
 }
 
 /// Every edge from both sides: steps of two thermal voltages up and down, an argument of 0, the critical voltage, and memories beside either zero; then infinities and NaN.
