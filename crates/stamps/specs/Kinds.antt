@@ -4,6 +4,7 @@ use Prim.Native.Nat.{ℕ}
 use mathlib.Core.List.{List, [], _∷_, _++_}
 use lib.Ieee as Ieee
 use lib.Ieee.{Float, binary64, neg}
+use Rattle.num.specs.Floats.{nought}
 use Rattle.num.specs.Literals.{one}
 use Rattle.stamps.specs.Write.{Write, adds, puts}
 
@@ -46,3 +47,11 @@ capacitorWrites n a b g i = currentWrites n b a i ++ resistorWrites a b (Ieee.di
 -- D: current i from first to second node; resistor 1/g likewise
 unfoldable pub diodeWrites : ℕ → ℕ → ℕ → Float → Float → List Write
 diodeWrites n a b g i = currentWrites n a b i ++ resistorWrites a b (Ieee.div binary64 one g)
+
+-- L in the transient: the conductance g, added without inverting; current i from first to second node; 1.0 on the diagonal of its own row, which holds nothing else
+unfoldable pub inductorWrites : ℕ → ℕ → ℕ → ℕ → Float → Float → List Write
+inductorWrites n s a b g i = conductanceWrites a b g ++ (currentWrites n a b i ++ (puts s s one ∷ []))
+
+-- L at DC: "a short, stamped as a V of 0 with a source number"
+abbrev pub shortWrites : ℕ → ℕ → ℕ → ℕ → List Write
+shortWrites n s a b = voltageWrites n s a b nought

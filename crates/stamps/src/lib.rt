@@ -2,7 +2,7 @@
 // Nodes and a source's row are plain row numbers; nothing here knows an element. Ground's entries, and what lies outside the system, are not written.
 ghost use mathlib.Core.Path.{_≡_};
 ghost use Rattle.stamps.specs.Write.{adds, puts, lands as landing, spotOf, written, stamped};
-ghost use Rattle.stamps.specs.Kinds.{currentWrites, conductanceWrites, resistorWrites, voltageWrites, vcvsWrites, vccsWrites, capacitorWrites, diodeWrites};
+ghost use Rattle.stamps.specs.Kinds.{currentWrites, conductanceWrites, resistorWrites, voltageWrites, vcvsWrites, vccsWrites, capacitorWrites, diodeWrites, inductorWrites};
 
 // A current i from a to b.
 pub fn stamp_current(m: &mut [f64], n: usize, a: usize, b: usize, i: f64)
@@ -85,6 +85,15 @@ pub fn stamp_diode(m: &mut [f64], n: usize, a: usize, b: usize, g: f64, i: f64)
 {
     stamp_current(m, n, a, b, i);
     stamp_resistor(m, n, a, b, 1.0 / g);
+}
+
+// An inductor's companion at row s: the conductance g as it is, the current i from a to b, and 1.0 as all that its own row and column hold.
+pub fn stamp_inductor(m: &mut [f64], n: usize, s: usize, a: usize, b: usize, g: f64, i: f64)
+    ensures { λ _. ⌜ now (m .exit) ≡ stamped n (inductorWrites n s a b g i) (now (m .entry)) ⌝ }
+{
+    stamp_conductance(m, n, a, b, g);
+    stamp_current(m, n, a, b, i);
+    put_at(m, n, s, s, 1.0);
 }
 
 // Entry c of row r gains v.

@@ -10,6 +10,7 @@ use Rattle.models.specs.Vpwl.{patternAt, patternFirst, levelAt, levelOn,
 use Rattle.models.specs.laws.Rising.{Rising}
 use Rattle.models.specs.laws.First.{never-nan}
 use Rattle.models.specs.Capacitor.{companionOf}
+use Rattle.models.specs.Inductor.{conductanceOf, currentAfter}
 use Rattle.models.specs.Diode.{limited, floored}
 
 abbrev point : Float → Float → Point
@@ -126,6 +127,16 @@ case-overflow = refl
 case-i : companionOf one three half ≡ record { g = two; i = six }
 unfolding companionOf ofBits div mul
 case-i = refl
+
+-- an inductor of half a henry through a step of 1 is a conductance of 2; with 3 volts across it at the step's end its current goes from 1 to 7
+case-inductor : map (λ (f : Float → Float). f three) (mul binary64 (conductanceOf half one) ∷ (λ (v : Float). currentAfter half one v one) ∷ []) ≡ six ∷ seven ∷ []
+unfolding conductanceOf currentAfter ofBits add mul div
+case-inductor = refl
+
+-- 0 henries: no number is trapped, an infinite conductance stands for them
+case-no-henries : conductanceOf nought one ≡ infinity
+unfolding conductanceOf ofBits div
+case-no-henries = refl
 
 -- "a step of exactly two thermal voltages passes": thermal voltage 1, critical 0, from 1 to 3
 case-two-passes : limited one nought three one ≡ three

@@ -1,4 +1,4 @@
--- Two systems worked out by computing the definitions: the base of case b, and a source between equal nodes. Assumes nothing.
+-- Systems worked out by computing the definitions: the base of case b, a source between equal nodes, and an inductor at DC and in a step. Assumes nothing.
 use mathlib.Core.Path.{_≡_, refl}
 use mathlib.Core.List.{[], _∷_, _++_}
 use lib.ListN.{replicate}
@@ -6,7 +6,7 @@ use lib.Ieee as Ieee
 use lib.Ieee.{Float, binary64, ofBits}
 use Rattle.stamps.specs.Write.{written, stamped}
 use Rattle.num.specs.Literals.{one, two, four}
-use Rattle.stamps.specs.Kinds.{negOne, conductanceWrites, resistorWrites, voltageWrites}
+use Rattle.stamps.specs.Kinds.{negOne, currentWrites, conductanceWrites, resistorWrites, voltageWrites, inductorWrites, shortWrites}
 
 abbrev z : Float
 z = ofBits binary64 0
@@ -31,3 +31,25 @@ equal-nodes :
     ∷ []
 unfolding stamped written voltageWrites
 equal-nodes = refl
+
+-- an inductor from 1 to 2 with row 3 at DC: a short, so that both nodes have one voltage and its current is the unknown of its row
+inductor-at-dc :
+    stamped 4 (shortWrites 4 3 1 2) (replicate 20 z)
+    ≡ z ∷ z ∷ z ∷ z ∷ z
+    ∷ z ∷ z ∷ z ∷ one ∷ z
+    ∷ z ∷ z ∷ z ∷ negOne ∷ z
+    ∷ z ∷ one ∷ negOne ∷ z ∷ z
+    ∷ []
+unfolding stamped written voltageWrites
+inductor-at-dc = refl
+
+-- the same in a step, with the conductance 2 and a current of 4: row and column 3 hold only a 1.0 on the diagonal
+inductor-in-step :
+    stamped 4 (inductorWrites 4 3 1 2 two four) (replicate 20 z)
+    ≡ z ∷ z ∷ z ∷ z ∷ z
+    ∷ z ∷ two ∷ Ieee.neg two ∷ z ∷ Ieee.neg four
+    ∷ z ∷ Ieee.neg two ∷ two ∷ z ∷ four
+    ∷ z ∷ z ∷ z ∷ one ∷ z
+    ∷ []
+unfolding stamped written inductorWrites conductanceWrites currentWrites Ieee.ofBits Ieee.ofFields Ieee.odd Ieee.neg Ieee.add Ieee.sum Ieee.round Ieee.units Ieee.size Ieee.span Ieee.climb
+inductor-in-step = refl
