@@ -9,7 +9,7 @@ use Rattle.numbers.specs.Kinds.{diode}
 use Rattle.num.specs.Floats.{absoluteOf}
 use Rattle.options.specs.declared.Options.{Options}
 use Rattle.sheet.specs.declared.Element.{Element}
-use Rattle.sheet.specs.declared.Element.the-variants.{R, I, «V», D, Isin, Vsin, Vpwl, C, Vcvs, Vccs}
+use Rattle.sheet.specs.declared.Element.the-variants.{R, I, «V», D, Isin, Vsin, Vpwl, C, Vcvs, Vccs, L}
 use Rattle.sheet.specs.Check.{recordsOf}
 use Rattle.groups.specs.Records.{recordIn, onRecord, across}
 use Rattle.behind.specs.declared.Behind.{Behind}
@@ -32,6 +32,7 @@ diodeBehind reltol vntol x y (Vpwl p q v w f k s) = false
 diodeBehind reltol vntol x y (C a b v) = false
 diodeBehind reltol vntol x y (Vcvs p q cp cq k s) = false
 diodeBehind reltol vntol x y (Vccs p q cp cq k) = false
+diodeBehind reltol vntol x y (L a b v s) = false
 
 -- record i is one; its last limited voltage is the memory's float i
 unfoldable pub behindAt : Float → Float → List ℕ → List Float → List Float → ℕ → Bool

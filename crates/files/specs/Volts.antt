@@ -5,7 +5,7 @@ use lib.ListN.{getD}
 use lib.Ieee.{Float, nan, binary64, ofBits}
 use Rattle.numbers.specs.Kinds.{diode}
 use Rattle.sheet.specs.declared.Element.{Element}
-use Rattle.sheet.specs.declared.Element.the-variants.{R, I, «V», D, Isin, Vsin, Vpwl, C, Vcvs, Vccs}
+use Rattle.sheet.specs.declared.Element.the-variants.{R, I, «V», D, Isin, Vsin, Vpwl, C, Vcvs, Vccs, L}
 use Rattle.groups.specs.Records.{recordIn, onRecord, across}
 use Rattle.files.specs.declared.volts.Volts.{Volts}
 
@@ -21,6 +21,7 @@ acrossIn x (Vpwl p q v w f k s) = ofBits binary64 0
 acrossIn x (C a b v) = ofBits binary64 0
 acrossIn x (Vcvs p q cp cq k s) = ofBits binary64 0
 acrossIn x (Vccs p q cp cq k) = ofBits binary64 0
+acrossIn x (L a b v s) = ofBits binary64 0
 
 -- so of record i
 abbrev pub acrossAt : List ℕ → ℕ → List Float → Float

@@ -30,3 +30,6 @@ vcvs = 9
 
 abbrev pub vccs : ℕ
 vccs = 10
+
+abbrev pub inductor : ℕ
+inductor = 11

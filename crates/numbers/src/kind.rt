@@ -18,3 +18,5 @@ pub const CAPACITOR: u8 = 8;
 pub const VCVS: u8 = 9;
 
 pub const VCCS: u8 = 10;
+
+pub const INDUCTOR: u8 = 11;

@@ -9,7 +9,7 @@ use Rattle.sheet.specs.declared.NodeId.{NodeId}
 use Rattle.sheet.specs.declared.SourceId.{SourceId}
 use Rattle.sheet.specs.declared.Limits.{Limits}
 use Rattle.sheet.specs.declared.Element.{Element}
-use Rattle.sheet.specs.declared.Element.the-variants.{R, I, «V», D, Isin, Vsin, Vpwl, C, Vcvs, Vccs}
+use Rattle.sheet.specs.declared.Element.the-variants.{R, I, «V», D, Isin, Vsin, Vpwl, C, Vcvs, Vccs, L}
 
 -- the nodes of an element, its control nodes too
 unfoldable pub nodesOf : Element → List NodeId
@@ -23,6 +23,7 @@ nodesOf (Vpwl p q x y f k s) = p ∷ q ∷ []
 nodesOf (C p q x) = p ∷ q ∷ []
 nodesOf (Vcvs p q cp cq x s) = p ∷ q ∷ cp ∷ cq ∷ []
 nodesOf (Vccs p q cp cq x) = p ∷ q ∷ cp ∷ cq ∷ []
+nodesOf (L p q x s) = p ∷ q ∷ []
 
 -- its source number, where its kind has one
 unfoldable pub sourcesOf : Element → List SourceId
@@ -36,6 +37,7 @@ sourcesOf (Vpwl p q x y f k s) = s ∷ []
 sourcesOf (C p q x) = []
 sourcesOf (Vcvs p q cp cq x s) = s ∷ []
 sourcesOf (Vccs p q cp cq x) = []
+sourcesOf (L p q x s) = s ∷ []
 
 -- first point plus count: how many of the points given it takes to hold its own
 unfoldable pub pointsOf : Element → ℕ
@@ -49,6 +51,7 @@ pointsOf (Vpwl p q x y first count s) = first + count
 pointsOf (C p q x) = 0
 pointsOf (Vcvs p q cp cq x s) = 0
 pointsOf (Vccs p q cp cq x) = 0
+pointsOf (L p q x s) = 0
 
 abbrev pub nodeBelow : ℕ → NodeId → Bool
 nodeBelow nodes p = ltb (p .0) nodes

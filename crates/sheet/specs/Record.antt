@@ -5,14 +5,14 @@ use mathlib.Core.Bool.{Bool, true, false, cond, _&&_, _||_}
 use mathlib.Core.List.{List}
 use lib.ListN.{getD, take, drop}
 use lib.Dec.{eqb, leb}
-use Rattle.numbers.specs.Kinds.{resistor, current, voltage, diode, isin, vsin, vpwl, capacitor, vcvs, vccs}
+use Rattle.numbers.specs.Kinds.{resistor, current, voltage, diode, isin, vsin, vpwl, capacitor, vcvs, vccs, inductor}
 use Rattle.numbers.specs.Refusals.{byKind, byUnused}
 use Rattle.num.specs.Le.{le16, floatAt}
 use Rattle.sheet.specs.declared.NodeId.{NodeId}
 use Rattle.sheet.specs.declared.SourceId.{SourceId}
 use Rattle.sheet.specs.declared.record.Uses.{Uses}
 use Rattle.sheet.specs.declared.Element.{Element}
-use Rattle.sheet.specs.declared.Element.the-variants.{R, I, «V», D, Isin, Vsin, Vpwl, C, Vcvs, Vccs}
+use Rattle.sheet.specs.declared.Element.the-variants.{R, I, «V», D, Isin, Vsin, Vpwl, C, Vcvs, Vccs, L}
 use Rattle.sheet.specs.declared.Decoded.{Decoded}
 use Rattle.sheet.specs.declared.Decoded.the-variants.{Good, Refused}
 
@@ -67,7 +67,10 @@ vcvsOf r = Vcvs (nodeAt r 2) (nodeAt r 4) (nodeAt r 6) (nodeAt r 8) (floatAt r 1
 abbrev pub vccsOf : List ℕ → Element
 vccsOf r = Vccs (nodeAt r 2) (nodeAt r 4) (nodeAt r 6) (nodeAt r 8) (floatAt r 16)
 
--- the kind byte decides among ten records; any other kind is refused by 6
+abbrev pub inductorOf : List ℕ → Element
+inductorOf r = L (nodeAt r 2) (nodeAt r 4) (floatAt r 16) (sourceAt r 10)
+
+-- the kind byte decides among eleven records; any other kind is refused by 6
 unfoldable pub elementOf : ℕ → List ℕ → Decoded
 elementOf kind r =
     cond (eqb kind resistor) (Good (resistorOf r))
@@ -80,7 +83,8 @@ elementOf kind r =
     (cond (eqb kind capacitor) (Good (capacitorOf r))
     (cond (eqb kind vcvs) (Good (vcvsOf r))
     (cond (eqb kind vccs) (Good (vccsOf r))
-    (Refused byKind))))))))))
+    (cond (eqb kind inductor) (Good (inductorOf r))
+    (Refused byKind)))))))))))
 
 -- what a kind uses besides its two nodes: control nodes, a source number, points, and so many floats
 abbrev pub used : Bool → Bool → Bool → ℕ → Uses
@@ -95,7 +99,8 @@ usesOf kind =
     (cond (eqb kind vpwl) (used false true true 2)
     (cond (eqb kind vcvs) (used true true false 1)
     (cond (eqb kind vccs) (used true false false 1)
-    (used false false false 1)))))))
+    (cond (eqb kind inductor) (used false true false 1)
+    (used false false false 1))))))))
 
 -- each of the n bytes from `at` on is zero
 unfoldable pub zeros : List ℕ → ℕ → ℕ → Bool

@@ -1,9 +1,9 @@
-// The ten kinds, each read from the bytes of a record: its own numbers and no others.
+// The eleven kinds, each read from the bytes of a record: its own numbers and no others.
 use super::Element;
 use super::NodeId;
 use super::SourceId;
 ghost use mathlib.Core.Path.{_≡_};
-ghost use Rattle.sheet.specs.Record.{nodeAt, sourceAt, resistorOf, currentOf, voltageOf, diodeOf, isinOf, vsinOf, vpwlOf, capacitorOf, vcvsOf, vccsOf};
+ghost use Rattle.sheet.specs.Record.{nodeAt, sourceAt, resistorOf, currentOf, voltageOf, diodeOf, isinOf, vsinOf, vpwlOf, capacitorOf, vcvsOf, vccsOf, inductorOf};
 
 // 1: ohms.
 pub fn resistor(bytes: &[u8]) -> Element
@@ -128,6 +128,18 @@ pub fn vccs(bytes: &[u8]) -> Element
         cp: node_at(bytes, 6),
         cn: node_at(bytes, 8),
         k: num::f64_at(bytes, 16),
+    }
+}
+
+// 11: henries.
+pub fn inductor(bytes: &[u8]) -> Element
+    ensures { λ r. ⌜ r ≡ inductorOf (now (bytes .entry)) ⌝ }
+{
+    Element::L {
+        a: node_at(bytes, 2),
+        b: node_at(bytes, 4),
+        value: num::f64_at(bytes, 16),
+        source: source_at(bytes, 10),
     }
 }
 

@@ -1,4 +1,4 @@
-// The element sheet: ten kinds of record, the reader that turns a record into an element, and the check of a whole sheet.
+// The element sheet: eleven kinds of record, the reader that turns a record into an element, and the check of a whole sheet.
 // Every public function is total: a byte past the end of a sheet reads as 0, and a sheet of any length is checked as far as its whole records go.
 mod kinds;
 mod range;
@@ -83,6 +83,12 @@ pub enum Element {
         cp: NodeId,
         cn: NodeId,
         k: f64,
+    },
+    L {
+        a: NodeId,
+        b: NodeId,
+        value: f64,
+        source: SourceId,
     },
 }
 

@@ -23,6 +23,7 @@ pub fn nodes_fit(nodes: usize, e: Element) -> bool
         Element::C { a, b, .. } => pair_fits(nodes, a, b),
         Element::Vcvs { p, n, cp, cn, .. } => pairs_fit(nodes, p, n, cp, cn),
         Element::Vccs { p, n, cp, cn, .. } => pairs_fit(nodes, p, n, cp, cn),
+        Element::L { a, b, .. } => pair_fits(nodes, a, b),
     }
 }
 
@@ -35,6 +36,7 @@ pub fn sources_fit(sources: usize, e: Element) -> bool
         Element::Vsin { source, .. } => source_fits(sources, source),
         Element::Vpwl { source, .. } => source_fits(sources, source),
         Element::Vcvs { source, .. } => source_fits(sources, source),
+        Element::L { source, .. } => source_fits(sources, source),
         _ => true,
     }
 }

@@ -39,7 +39,8 @@ pub fn element_of(kind: u8, bytes: &[u8]) -> Decoded
         numbers::kind::CAPACITOR => Decoded::Good(kinds::capacitor(bytes)),
         numbers::kind::VCVS => Decoded::Good(kinds::vcvs(bytes)),
         numbers::kind::VCCS => Decoded::Good(kinds::vccs(bytes)),
-        0 | 11..=255 => Decoded::Refused(numbers::refusal::KIND),
+        numbers::kind::INDUCTOR => Decoded::Good(kinds::inductor(bytes)),
+        0 | 12..=255 => Decoded::Refused(numbers::refusal::KIND),
     }
 }
 
@@ -55,6 +56,7 @@ pub fn uses_of(kind: u8) -> Uses
         numbers::kind::VPWL => used(false, true, true, 2),
         numbers::kind::VCVS => used(true, true, false, 1),
         numbers::kind::VCCS => used(true, false, false, 1),
+        numbers::kind::INDUCTOR => used(false, true, false, 1),
         _ => used(false, false, false, 1),
     }
 }

@@ -5,7 +5,7 @@ use mathlib.Core.Bool.{false, false≢true}
 use mathlib.Core.List.{List}
 use lib.Ieee.{Float}
 use Rattle.numbers.specs.Kinds.{diode}
-use Rattle.sheet.specs.declared.Element.the-variants.{R, I, «V», D, Isin, Vsin, Vpwl, C, Vcvs, Vccs}
+use Rattle.sheet.specs.declared.Element.the-variants.{R, I, «V», D, Isin, Vsin, Vpwl, C, Vcvs, Vccs, L}
 use Rattle.sheet.specs.Kind.{kindOf}
 use Rattle.sheet.specs.Record.{kindAt}
 use Rattle.groups.specs.Records.{recordIn}
@@ -24,6 +24,7 @@ quiet-behind reltol vntol x y (Vpwl p q a b f k s) h = refl
 quiet-behind reltol vntol x y (C p q a) h = refl
 quiet-behind reltol vntol x y (Vcvs p q cp cq a s) h = refl
 quiet-behind reltol vntol x y (Vccs p q cp cq a) h = refl
+quiet-behind reltol vntol x y (L p q a s) h = refl
 
 -- a record of another kind is not behind
 pub other-kind : (reltol vntol : Float) (sheet : List ℕ) (x memory : List Float) (i : ℕ) → (kindAt sheet i ≡ diode → ⊥) → behindAt reltol vntol sheet x memory i ≡ false

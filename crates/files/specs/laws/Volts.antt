@@ -8,7 +8,7 @@ use lib.Ieee.{Float, nan, binary64, ofBits}
 use borrow.Author.Tests.{not-true}
 use Rattle.numbers.specs.Kinds.{diode}
 use Rattle.sheet.specs.declared.Element.{Element}
-use Rattle.sheet.specs.declared.Element.the-variants.{R, I, «V», D, Isin, Vsin, Vpwl, C, Vcvs, Vccs}
+use Rattle.sheet.specs.declared.Element.the-variants.{R, I, «V», D, Isin, Vsin, Vpwl, C, Vcvs, Vccs, L}
 use Rattle.sheet.specs.declared.Decoded.{Decoded}
 use Rattle.sheet.specs.declared.Decoded.the-variants.{Good, Refused}
 use Rattle.sheet.specs.Kind.{kindOf}
@@ -30,6 +30,7 @@ quiet-across x (Vpwl p q a b f k s) h = refl
 quiet-across x (C p q a) h = refl
 quiet-across x (Vcvs p q cp cq a s) h = refl
 quiet-across x (Vccs p q cp cq a) h = refl
+quiet-across x (L p q a s) h = refl
 
 module _ (reltol vntol : Float) (x : List Float) (y : Float) where
   of-element : (e : Element) → diodeBehind reltol vntol x y e ≡ true → caughtUp reltol vntol (acrossIn x e) y ≡ false
@@ -44,6 +45,7 @@ module _ (reltol vntol : Float) (x : List Float) (y : Float) where
   of-element (C a b v) h = absurd (false≢true h)
   of-element (Vcvs p q cp cq k s) h = absurd (false≢true h)
   of-element (Vccs p q cp cq k) h = absurd (false≢true h)
+  of-element (L a b v s) h = absurd (false≢true h)
 
   of-record : (d : Decoded) → onRecord (diodeBehind reltol vntol x y) false d ≡ true → caughtUp reltol vntol (onRecord (acrossIn x) (ofBits binary64 0) d) y ≡ false
   of-record (Good e) h = of-element e h

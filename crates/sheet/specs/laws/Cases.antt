@@ -28,7 +28,7 @@ sheets =
     []
     ∷ (resistor ++ pattern)
     ∷ begins (0 ∷ 1 ∷ [])  -- kind 0, and byte 1
-    ∷ (resistor ++ begins (11 ∷ []))  -- kind 11
+    ∷ (resistor ++ begins (12 ∷ []))  -- kind 12
     ∷ begins (1 ∷ 1 ∷ [])  -- byte 1
     ∷ begins (1 ∷ 0 ∷ 3 ∷ 0 ∷ 0 ∷ 0 ∷ 0 ∷ 0 ∷ 0 ∷ 0 ∷ 1 ∷ [])  -- a source number that R does not use, before its node
     ∷ begins (1 ∷ 0 ∷ 0 ∷ 0 ∷ 3 ∷ [])  -- second node
@@ -38,7 +38,7 @@ sheets =
     ∷ begins (7 ∷ 0 ∷ 0 ∷ 0 ∷ 0 ∷ 0 ∷ 0 ∷ 0 ∷ 0 ∷ 0 ∷ 0 ∷ 0 ∷ 1 ∷ 0 ∷ 2 ∷ [])  -- one point too many
     ∷ begins (7 ∷ 0 ∷ 0 ∷ 0 ∷ 0 ∷ 0 ∷ 0 ∷ 0 ∷ 0 ∷ 0 ∷ 0 ∷ 0 ∷ 255 ∷ 255 ∷ 1 ∷ [])  -- a sum beyond 16 bits
     ∷ begins (7 ∷ 0 ∷ 0 ∷ 0 ∷ 0 ∷ 0 ∷ 0 ∷ 0 ∷ 0 ∷ 0 ∷ 0 ∷ 0 ∷ 2 ∷ [])  -- no point, from the end on
-    ∷ (resistor ++ begins (1 ∷ 0 ∷ 3 ∷ []) ++ begins (11 ∷ []))  -- the first faulty record counts
+    ∷ (resistor ++ begins (1 ∷ 0 ∷ 3 ∷ []) ++ begins (12 ∷ []))  -- the first faulty record counts
     ∷ []
 
 unfoldable pub answers : List (ℕ × ℕ)

@@ -37,7 +37,8 @@ made k r =
     (one (eqb k 8) k 8 _ _ refl refl
     (one (eqb k 9) k 9 _ _ refl refl
     (one (eqb k 10) k 10 _ _ refl refl
-    unknown)))))))))
+    (one (eqb k 11) k 11 _ _ refl refl
+    unknown))))))))))
 
 kept : {k : ℕ} {d : Decoded} (b : Bool) → Made k d → Made k (ifZero b d)
 kept true (element e q) = element e q

@@ -8,10 +8,10 @@ use borrow.Author.Tests.{eqb-false, lt-ltb, le-leb}
 use lib.Dec.{eqb}
 use lib.ListN.{getD}
 use Rattle.num.specs.Lists.{every}
-use Rattle.numbers.specs.Kinds.{resistor, vccs}
+use Rattle.numbers.specs.Kinds.{resistor, inductor}
 use Rattle.sheet.specs.declared.Limits.{Limits}
 use Rattle.sheet.specs.declared.Element.{Element}
-use Rattle.sheet.specs.declared.Element.the-variants.{R, I, «V», D, Isin, Vsin, Vpwl, C, Vcvs, Vccs}
+use Rattle.sheet.specs.declared.Element.the-variants.{R, I, «V», D, Isin, Vsin, Vpwl, C, Vcvs, Vccs, L}
 use Rattle.sheet.specs.declared.Decoded.{Decoded}
 use Rattle.sheet.specs.declared.Decoded.the-variants.{Good, Refused}
 use Rattle.sheet.specs.declared.Checked.{Checked}
@@ -24,15 +24,15 @@ use Rattle.sheet.specs.laws.Inside.{Each, Inside}
 use Rattle.sheet.specs.laws.Kind.{Made, element, unknown, soiled, decoded}
 use Rattle.sheet.specs.laws.Clean.{Sound, clean-at}
 
--- none of the conditions 6 to 10 holds of a record's bytes: its kind is 1 to 10; byte 1 and the bytes that its kind does not use are zero; its nodes, its source number and its points are among
+-- none of the conditions 6 to 10 holds of a record's bytes: its kind is 1 to 11; byte 1 and the bytes that its kind does not use are zero; its nodes, its source number and its points are among
 -- those given
 pub record Right (l : Limits) (r : List ℕ) : Type 0 where
   pub «kind-least» : resistor ≤ getD r 0 0
-  pub «kind-most» : getD r 0 0 ≤ vccs
+  pub «kind-most» : getD r 0 0 ≤ inductor
   pub unused : restZero (usesOf (getD r 0 0)) r ≡ true
   pub inside : (e : Element) → decodeOf r ≡ Good e → Inside l e
 
--- ---- 6 and 7: a kind of the ten decodes
+-- ---- 6 and 7: a kind of the eleven decodes
 
 -- it decodes
 record Known (d : Decoded) : Type 0 where
@@ -43,7 +43,7 @@ pick : (b : Bool) (k j : ℕ) (x : Element) (others : Decoded) → eqb k j ≡ b
 pick true k j x others t l f = record { element = x; good = refl }
 pick false k j x others t l f = f (omega (arith, eqb-false k j t))
 
-known : (k : ℕ) (r : List ℕ) → resistor ≤ k → k ≤ vccs → Known (elementOf k r)
+known : (k : ℕ) (r : List ℕ) → resistor ≤ k → k ≤ inductor → Known (elementOf k r)
 unfolding elementOf
 known k r l h =
     pick (eqb k 1) k 1 _ _ refl l
@@ -56,7 +56,8 @@ known k r l h =
     (λ l8. pick (eqb k 8) k 8 _ _ refl l8
     (λ l9. pick (eqb k 9) k 9 _ _ refl l9
     (λ l10. pick (eqb k 10) k 10 _ _ refl l10
-    (λ l11. absurd (omega arith)))))))))))
+    (λ l11. pick (eqb k 11) k 11 _ _ refl l11
+    (λ l12. absurd (omega arith))))))))))))
 
 -- ---- 8, 9 and 10: numbers in range are no fault
 
@@ -72,9 +73,9 @@ no-fault l e h =
     let p : pointsFit (l .points) e ≡ true = le-leb _ _ (h .points) in
     rw (n, s, p)
 
--- ---- what decodes is of a kind of the ten, and has zeros elsewhere
+-- ---- what decodes is of a kind of the eleven, and has zeros elsewhere
 
-kinds : (e : Element) → (resistor ≤ kindOf e) × (kindOf e ≤ vccs)
+kinds : (e : Element) → (resistor ≤ kindOf e) × (kindOf e ≤ inductor)
 unfolding kindOf
 kinds (R a b v) = (omega arith, omega arith)
 kinds (I p q v) = (omega arith, omega arith)
@@ -86,8 +87,9 @@ kinds (Vpwl p q v w f k n) = (omega arith, omega arith)
 kinds (C a b v) = (omega arith, omega arith)
 kinds (Vcvs p q cp cq k n) = (omega arith, omega arith)
 kinds (Vccs p q cp cq k) = (omega arith, omega arith)
+kinds (L a b v n) = (omega arith, omega arith)
 
-of-kind : {k : ℕ} {d : Decoded} {e : Element} → Made k d → d ≡ Good e → (resistor ≤ k) × (k ≤ vccs)
+of-kind : {k : ℕ} {d : Decoded} {e : Element} → Made k d → d ≡ Good e → (resistor ≤ k) × (k ≤ inductor)
 of-kind (element x q) g = rw q (kinds x)
 of-kind unknown g = absurd (let z : _≡_ {A = ℕ} 0 1 = cc in omega arith)
 of-kind soiled g = absurd (let z : _≡_ {A = ℕ} 0 1 = cc in omega arith)

@@ -5,14 +5,14 @@ use types.Run.{OneOf, miss}
 use denote.Enum.Declared.{tagOf}
 use Rattle.sheet.specs.Range.{pointsFit, pointsOf}
 use Rattle.sheet.specs.declared.Element.{Element}
-use Rattle.sheet.specs.declared.Element.the-variants.{R, I, «V», D, Isin, Vsin, Vpwl, C, Vcvs, Vccs}
+use Rattle.sheet.specs.declared.Element.the-variants.{R, I, «V», D, Isin, Vsin, Vpwl, C, Vcvs, Vccs, L}
 use Rattle.sheet.proofs.Element.{the-type}
 use borrow.Author.Needs.{needs}
 use Rattle.sheet.proofs.range.points_fit.Statement.{statement}
 use Rattle.sheet.proofs.range.points_fit.Tie as tie
 
 -- a kind without points
-others : (e : Element) → OneOf (0 ∷ 1 ∷ 2 ∷ 3 ∷ 4 ∷ 5 ∷ 7 ∷ 8 ∷ 9 ∷ []) (tagOf the-type e) → pointsOf e ≡ 0
+others : (e : Element) → OneOf (0 ∷ 1 ∷ 2 ∷ 3 ∷ 4 ∷ 5 ∷ 7 ∷ 8 ∷ 9 ∷ 10 ∷ []) (tagOf the-type e) → pointsOf e ≡ 0
 unfolding pointsOf
 others (R p q x) h = refl
 others (I p q x) h = refl
@@ -20,10 +20,11 @@ others («V» p q x s) h = refl
 others (D p q x y) h = refl
 others (Isin p q x y z) h = refl
 others (Vsin p q x y z s) h = refl
-others (Vpwl p q x y f k s) h = absurd (miss (0 ∷ 1 ∷ 2 ∷ 3 ∷ 4 ∷ 5 ∷ 7 ∷ 8 ∷ 9 ∷ []) 6 tt h)
+others (Vpwl p q x y f k s) h = absurd (miss (0 ∷ 1 ∷ 2 ∷ 3 ∷ 4 ∷ 5 ∷ 7 ∷ 8 ∷ 9 ∷ 10 ∷ []) 6 tt h)
 others (C p q x) h = refl
 others (Vcvs p q cp cq x s) h = refl
 others (Vccs p q cp cq x) h = refl
+others (L p q x s) h = refl
 
 returns : tie.Need-returns
 unfolding pointsFit
