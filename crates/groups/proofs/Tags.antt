@@ -8,7 +8,7 @@ use types.Run.{OneOf}
 use denote.Enum.Declared.{tagOf}
 use Rattle.sheet.proofs.Element.{the-type}
 use Rattle.sheet.specs.declared.Element.{Element}
-use Rattle.sheet.specs.declared.Element.the-variants.{R, I, «V», D, Isin, Vsin, Vpwl, C, Vcvs, Vccs}
+use Rattle.sheet.specs.declared.Element.the-variants.{R, I, «V», D, Isin, Vsin, Vpwl, C, Vcvs, Vccs, L}
 use Rattle.sheet.specs.Kind.{kindOf}
 use Rattle.groups.specs.Records.{outside}
 
@@ -24,17 +24,21 @@ kind-tag (Vpwl p q x y f k s) = refl
 kind-tag (C p q x) = refl
 kind-tag (Vcvs p q cp cq x s) = refl
 kind-tag (Vccs p q cp cq x) = refl
+kind-tag (L p q x s) = refl
 
--- whether each of the tags is of a kind outside
-abbrev pub allOutside : ℕ → ℕ → List ℕ → Bool
-allOutside low high [] = true
-allOutside low high (k ∷ ks) = outside low high (k + 1) && allOutside low high ks
+-- whether a test holds of the kind of each of the tags
+abbrev pub allSkipped : (ℕ → Bool) → List ℕ → Bool
+allSkipped skip [] = true
+allSkipped skip (k ∷ ks) = skip (k + 1) && allSkipped skip ks
 
-one-of : (low high : ℕ) (ks : List ℕ) (x : ℕ) → OneOf ks x → allOutside low high ks ≡ true → outside low high (x + 1) ≡ true
-one-of low high [] x h e = absurd h
-one-of low high (k ∷ []) x h e = ap (λ (y : ℕ). outside low high (y + 1)) h ∙ both _ _ .0 e .0
-one-of low high (k ∷ (k′ ∷ ks)) x (inl h) e = ap (λ (y : ℕ). outside low high (y + 1)) h ∙ both _ _ .0 e .0
-one-of low high (k ∷ (k′ ∷ ks)) x (inr h) e = one-of low high (k′ ∷ ks) x h (both (outside low high (k + 1)) (allOutside low high (k′ ∷ ks)) .0 e .1)
+one-of : (skip : ℕ → Bool) (ks : List ℕ) (x : ℕ) → OneOf ks x → allSkipped skip ks ≡ true → skip (x + 1) ≡ true
+one-of skip [] x h e = absurd h
+one-of skip (k ∷ []) x h e = ap (λ (y : ℕ). skip (y + 1)) h ∙ both _ _ .0 e .0
+one-of skip (k ∷ (k′ ∷ ks)) x (inl h) e = ap (λ (y : ℕ). skip (y + 1)) h ∙ both _ _ .0 e .0
+one-of skip (k ∷ (k′ ∷ ks)) x (inr h) e = one-of skip (k′ ∷ ks) x h (both (skip (k + 1)) (allSkipped skip (k′ ∷ ks)) .0 e .1)
 
-pub other-kind : (low high : ℕ) (ks : List ℕ) (e : Element) → OneOf ks (tagOf the-type e) → allOutside low high ks ≡ true → outside low high (kindOf e) ≡ true
-other-kind low high ks e h t = ap (outside low high) (sym (kind-tag e)) ∙ one-of low high ks (tagOf the-type e) h t
+pub skipped-kind : (skip : ℕ → Bool) (ks : List ℕ) (e : Element) → OneOf ks (tagOf the-type e) → allSkipped skip ks ≡ true → skip (kindOf e) ≡ true
+skipped-kind skip ks e h t = ap skip (sym (kind-tag e)) ∙ one-of skip ks (tagOf the-type e) h t
+
+pub other-kind : (low high : ℕ) (ks : List ℕ) (e : Element) → OneOf ks (tagOf the-type e) → allSkipped (outside low high) ks ≡ true → outside low high (kindOf e) ≡ true
+other-kind low high ks e h t = skipped-kind (outside low high) ks e h t

@@ -10,7 +10,7 @@ use Rattle.numbers.specs.Verdicts.{diodeCurrent}
 use Rattle.options.specs.declared.Options.{Options}
 use Rattle.loops.specs.Loop.{turns}
 use Rattle.sheet.specs.declared.Element.{Element}
-use Rattle.sheet.specs.declared.Element.the-variants.{R, I, «V», D, Isin, Vsin, Vpwl, C, Vcvs, Vccs}
+use Rattle.sheet.specs.declared.Element.the-variants.{R, I, «V», D, Isin, Vsin, Vpwl, C, Vcvs, Vccs, L}
 use Rattle.sheet.specs.Check.{recordsOf}
 use Rattle.stamps.specs.Write.{stamped}
 use Rattle.stamps.specs.Kinds.{diodeWrites}
@@ -45,6 +45,7 @@ biased o n x i m y (Vpwl p q v w f k s) = stampedOf 0 m y
 biased o n x i m y (C a b v) = stampedOf 0 m y
 biased o n x i m y (Vcvs p q cp cq k s) = stampedOf 0 m y
 biased o n x i m y (Vccs p q cp cq k) = stampedOf 0 m y
+biased o n x i m y (L a b v s) = stampedOf 0 m y
 
 -- record i; after a verdict nothing more is stamped, and a diode before the failing one has already taken its new voltage
 unfoldable pub biasedAt : Options → List ℕ → ℕ → List Float → ℕ → Stamped → Stamped

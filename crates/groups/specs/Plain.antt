@@ -1,15 +1,14 @@
--- The groups that cannot fail: the base, the dependent sources, and the elements that store energy. Clients cite basedOn, dependentOf and storageOf.
+-- Two groups that need the sheet alone: the base and the dependent sources. Clients cite basedOn and dependentOf.
 use Prim.Native.Nat.{ℕ}
 use mathlib.Core.List.{List, []}
 use lib.Ieee.{Float}
 use Rattle.sheet.specs.declared.Element.{Element}
-use Rattle.sheet.specs.declared.Element.the-variants.{R, I, «V», D, Isin, Vsin, Vpwl, C, Vcvs, Vccs}
+use Rattle.sheet.specs.declared.Element.the-variants.{R, I, «V», D, Isin, Vsin, Vpwl, C, Vcvs, Vccs, L}
 use Rattle.sheet.specs.Row.{rowOf}
 use Rattle.sheet.specs.Check.{recordsOf}
 use Rattle.stamps.specs.Write.{Write, stamped}
-use Rattle.stamps.specs.Kinds.{currentWrites, resistorWrites, voltageWrites, vcvsWrites, vccsWrites, capacitorWrites}
-use Rattle.models.specs.Capacitor.{companionOf}
-use Rattle.groups.specs.Records.{writesOf, across}
+use Rattle.stamps.specs.Kinds.{currentWrites, resistorWrites, voltageWrites, vcvsWrites, vccsWrites}
+use Rattle.groups.specs.Records.{writesOf}
 
 -- Base: I, R, V
 unfoldable pub baseWrites : ℕ → ℕ → Element → List Write
@@ -23,6 +22,7 @@ baseWrites nodes n (Vpwl p q x y f k s) = []
 baseWrites nodes n (C a b x) = []
 baseWrites nodes n (Vcvs p q cp cq k s) = []
 baseWrites nodes n (Vccs p q cp cq k) = []
+baseWrites nodes n (L a b x s) = []
 
 -- dependent: Vcvs, Vccs
 unfoldable pub dependentWrites : ℕ → ℕ → Element → List Write
@@ -36,21 +36,7 @@ dependentWrites nodes n (Vpwl p q x y f k s) = []
 dependentWrites nodes n (C a b x) = []
 dependentWrites nodes n (Vcvs p q cp cq k s) = vcvsWrites (rowOf nodes s) (p .0) (q .0) (cp .0) (cq .0) k
 dependentWrites nodes n (Vccs p q cp cq k) = vccsWrites (p .0) (q .0) (cp .0) (cq .0) k
-
--- storage: C, from the voltage across it in the last accepted vector x, for a step
-unfoldable pub storageWrites : ℕ → List Float → Float → Element → List Write
-storageWrites n x step (R a b y) = []
-storageWrites n x step (I p q y) = []
-storageWrites n x step («V» p q y s) = []
-storageWrites n x step (D p q y z) = []
-storageWrites n x step (Isin p q y z w) = []
-storageWrites n x step (Vsin p q y z w s) = []
-storageWrites n x step (Vpwl p q y z f k s) = []
-storageWrites n x step (C a b value) =
-    let c = companionOf value (across x (a .0) (b .0)) step in
-    capacitorWrites n (a .0) (b .0) (c .g) (c .i)
-storageWrites n x step (Vcvs p q cp cq k s) = []
-storageWrites n x step (Vccs p q cp cq k) = []
+dependentWrites nodes n (L a b x s) = []
 
 -- a matrix after each group, stamped in list order
 unfoldable pub basedOn : ℕ → ℕ → List ℕ → List Float → List Float
@@ -58,6 +44,3 @@ basedOn nodes n sheet m = stamped n (writesOf (λ _. baseWrites nodes n) sheet (
 
 unfoldable pub dependentOf : ℕ → ℕ → List ℕ → List Float → List Float
 dependentOf nodes n sheet m = stamped n (writesOf (λ _. dependentWrites nodes n) sheet (recordsOf sheet)) m
-
-unfoldable pub storageOf : ℕ → List Float → Float → List ℕ → List Float → List Float
-storageOf n x step sheet m = stamped n (writesOf (λ _. storageWrites n x step) sheet (recordsOf sheet)) m

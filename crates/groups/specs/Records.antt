@@ -1,4 +1,4 @@
--- The records of a sheet as a group of stamps sees them. Clients cite elementAt, recordIn, onRecord, writesOf and across.
+-- The records of a sheet as a group of stamps sees them. Clients cite elementAt, unless, recordIn, onRecord, writesOf and across.
 use Prim.Native.Nat.{ℕ, zero, suc}
 use mathlib.Core.Bool.{Bool, cond, _||_}
 use mathlib.Core.List.{List, [], _++_}
@@ -20,9 +20,13 @@ elementAt sheet i = decodeOf (recordAt sheet i)
 abbrev pub outside : ℕ → ℕ → ℕ → Bool
 outside low high kind = ltb kind low || ltb high kind
 
+-- record i, not decoded where a test holds of its kind
+abbrev pub unless : (ℕ → Bool) → List ℕ → ℕ → Decoded
+unless skip sheet i = cond (skip (kindAt sheet i)) (Refused 0) (elementAt sheet i)
+
 -- record i, not decoded where its kind is outside
 unfoldable pub recordIn : ℕ → ℕ → List ℕ → ℕ → Decoded
-recordIn low high sheet i = cond (outside low high (kindAt sheet i)) (Refused 0) (elementAt sheet i)
+recordIn low high sheet i = unless (outside low high) sheet i
 
 -- what a group makes of a record's element; x where it has none
 abbrev pub onRecord : {X : Type 0} → (Element → X) → X → Decoded → X

@@ -9,7 +9,7 @@ use Rattle.numbers.specs.Verdicts.{sineRefused}
 use Rattle.num.specs.Floats.{nought}
 use Rattle.loops.specs.Loop.{turns}
 use Rattle.sheet.specs.declared.Element.{Element}
-use Rattle.sheet.specs.declared.Element.the-variants.{R, I, «V», D, Isin, Vsin, Vpwl, C, Vcvs, Vccs}
+use Rattle.sheet.specs.declared.Element.the-variants.{R, I, «V», D, Isin, Vsin, Vpwl, C, Vcvs, Vccs, L}
 use Rattle.sheet.specs.Row.{rowOf}
 use Rattle.sheet.specs.Check.{recordsOf}
 use Rattle.stamps.specs.Write.{Write, stamped}
@@ -52,6 +52,7 @@ driven w points m (D p q x y) = drivenOf 0 m
 driven w points m (C a b x) = drivenOf 0 m
 driven w points m (Vcvs p q cp cq k s) = drivenOf 0 m
 driven w points m (Vccs p q cp cq k) = drivenOf 0 m
+driven w points m (L a b x s) = drivenOf 0 m
 
 -- record i; after a verdict nothing more is stamped
 unfoldable pub drivenAt : Pass → List ℕ → List ℕ → ℕ → Driven → Driven

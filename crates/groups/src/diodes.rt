@@ -1,6 +1,7 @@
 // The diodes: each is linearized at the last solved vector, from its own memory. One whose current is not finite ends the stamping.
 use super::records::across;
 use super::records::number_at;
+use super::records::put;
 use super::records::record_in;
 use models::diode::Linear;
 use numbers::kind;
@@ -11,7 +12,7 @@ use sheet::Decoded;
 use sheet::Element;
 ghost use mathlib.Core.Path.{_≡_};
 ghost use Prim.Native.Nat.{_-_, min};
-ghost use lib.ListN.{length, set};
+ghost use lib.ListN.{length};
 ghost use Rattle.numbers.specs.Limits.{mostRecords};
 ghost use Rattle.loops.specs.Loop.{turns};
 ghost use Rattle.sheet.specs.Check.{recordsOf};
@@ -212,14 +213,4 @@ fn stamp_model(
     put(memory, i, v);
     stamps::stamp_diode(m, n, a, b, g, current);
     0
-}
-
-// The number at i becomes v; past the end there is nothing to change.
-fn put(x: &mut [f64], i: usize, v: f64)
-    ensures { λ _. ⌜ now (x .exit) ≡ set (now (x .entry)) i v ⌝ }
-{
-    if x.len() <= i {
-        return;
-    }
-    x[i] = v;
 }

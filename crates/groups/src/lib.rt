@@ -4,6 +4,7 @@ pub mod diodes;
 mod plain;
 pub mod records;
 mod sources;
+pub mod storage;
 
 ghost use mathlib.Core.Path.{_≡_};
 ghost use Rattle.groups.specs.Sources.{drivenOf};
@@ -27,30 +28,34 @@ pub fn stamp_base(sheet: &[u8], nodes: usize, order: usize, base: &mut [f64])
     plain::stamp_base(sheet, nodes, order, base);
 }
 
-// Stamps over a copy of the base what a pass has besides its diodes, and answers 0, or the verdict 26 that ended it.
+// Stamps over a copy of the base what a pass has besides its diodes, and answers 0, or the verdict 26 that ended it. Of the memory it reads the inductors' currents alone.
 pub fn stamp_linear(
     p: Pass,
     sheet: &[u8],
     points: &[u8],
     base: &[f64],
     accepted: &[f64],
+    memory: &[f64],
     matrix: &mut [f64],
 ) -> u8
-    ensures { λ r. ⌜ drivenOf r (now (matrix .exit)) ≡ linearOf p (now (sheet .entry)) (now (points .entry)) (now (base .entry)) (now (accepted .entry)) (now (matrix .entry)) ⌝ }
+    ensures { λ r. ⌜
+        drivenOf r (now (matrix .exit))
+        ≡ linearOf p (now (sheet .entry)) (now (points .entry)) (now (base .entry)) (now (accepted .entry)) (now (memory .entry)) (now (matrix .entry))
+        ⌝ }
 {
     loops::copy(base, matrix);
     let code = sources::stamp_independent(p, sheet, points, matrix);
     if code != 0 {
         return code;
     }
-    complete(p, sheet, accepted, matrix);
+    complete(p, sheet, accepted, memory, matrix);
     0
 }
 
 // The stamps that follow the independent sources.
-fn complete(p: Pass, sheet: &[u8], accepted: &[f64], matrix: &mut [f64])
-    ensures { λ _. ⌜ now (matrix .exit) ≡ completed p (now (sheet .entry)) (now (accepted .entry)) (now (matrix .entry)) ⌝ }
+fn complete(p: Pass, sheet: &[u8], accepted: &[f64], memory: &[f64], matrix: &mut [f64])
+    ensures { λ _. ⌜ now (matrix .exit) ≡ completed p (now (sheet .entry)) (now (accepted .entry)) (now (memory .entry)) (now (matrix .entry)) ⌝ }
 {
     plain::stamp_dependent(sheet, p.nodes, p.order, matrix);
-    plain::stamp_storage_if(p.transient, sheet, p.order, accepted, p.step, matrix);
+    storage::stamp_storage(p, sheet, accepted, memory, matrix);
 }

@@ -1,18 +1,15 @@
-// The groups that cannot fail: the base (I, R, V), the dependent sources (Vcvs, Vccs) and the elements that store energy (C).
-use super::records::across;
+// Two groups that need the sheet alone: the base (I, R, V) and the dependent sources (Vcvs, Vccs).
 use super::records::record_in;
-use super::records::record_of;
 use numbers::kind;
 use sheet::Decoded;
 use sheet::Element;
 use sheet::NodeId;
 ghost use mathlib.Core.Path.{_≡_};
-ghost use mathlib.Core.Bool.{cond};
 ghost use Rattle.stamps.specs.Write.{stamped};
 ghost use Rattle.stamps.specs.Kinds.{vcvsWrites, vccsWrites};
 ghost use mathlib.Core.List.{[]};
 ghost use Rattle.groups.specs.Records.{onRecord};
-ghost use Rattle.groups.specs.Plain.{baseWrites, dependentWrites, storageWrites, basedOn, dependentOf, storageOf};
+ghost use Rattle.groups.specs.Plain.{baseWrites, dependentWrites, basedOn, dependentOf};
 
 // Stamps I, R and V, in the order of the records.
 pub fn stamp_base(sheet: &[u8], nodes: usize, n: usize, m: &mut [f64])
@@ -36,33 +33,6 @@ pub fn stamp_dependent(sheet: &[u8], nodes: usize, n: usize, m: &mut [f64])
     let count = sheet::records(sheet);
     for i in 0..count {
         dependent_one(record_in(sheet, i, kind::VCVS, kind::VCCS), nodes, n, m);
-    }
-}
-
-// Stamps C from the vector x, in the order of the records, or nothing at DC.
-pub fn stamp_storage_if(
-    transient: bool,
-    sheet: &[u8],
-    n: usize,
-    x: &[f64],
-    step: f64,
-    m: &mut [f64],
-)
-    ensures { λ _. ⌜ now (m .exit) ≡ cond transient (storageOf n (now (x .entry)) step (now (sheet .entry)) (now (m .entry))) (now (m .entry)) ⌝ }
-{
-    if transient {
-        stamp_storage(sheet, n, x, step, m);
-        return;
-    }
-}
-
-// Stamps C from the vector x, in the order of the records.
-fn stamp_storage(sheet: &[u8], n: usize, x: &[f64], step: f64, m: &mut [f64])
-    ensures { λ _. ⌜ now (m .exit) ≡ storageOf n (now (x .entry)) step (now (sheet .entry)) (now (m .entry)) ⌝ }
-{
-    let count = sheet::records(sheet);
-    for i in 0..count {
-        storage_one(record_of(sheet, i, kind::CAPACITOR), n, x, step, m);
     }
 }
 
@@ -149,20 +119,4 @@ fn vccs(n: usize, p: NodeId, q: NodeId, cp: NodeId, cq: NodeId, k: f64, m: &mut 
         cq.0 as usize,
         k,
     );
-}
-
-// What a record writes as a capacitor.
-fn storage_one(d: Decoded, n: usize, x: &[f64], step: f64, m: &mut [f64])
-    ensures { λ _. ⌜ now (m .exit) ≡ stamped n (onRecord (storageWrites n (now (x .entry)) step) [] d) (now (m .entry)) ⌝ }
-{
-    let Decoded::Good(e) = d else {
-        return;
-    };
-    let Element::C { a, b, value } = e else {
-        return;
-    };
-    let from = a.0 as usize;
-    let to = b.0 as usize;
-    let c = models::capacitor::linearize(value, across(x, from, to), step);
-    stamps::stamp_capacitor(m, n, from, to, c.g, c.i);
 }

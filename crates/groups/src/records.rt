@@ -1,7 +1,7 @@
-// The records of a sheet as a group sees them, and reads of a vector that may be too short.
+// The records of a sheet as a group sees them, and reads and writes of a vector that may be too short.
 use sheet::Decoded;
 ghost use mathlib.Core.Path.{_≡_};
-ghost use lib.ListN.{getD};
+ghost use lib.ListN.{getD, set};
 ghost use lib.Ieee.{nan};
 ghost use Rattle.groups.specs.Records.{recordIn, across as acrossOf};
 
@@ -44,4 +44,14 @@ pub fn number_at(x: &[f64], i: usize) -> f64
         return 0.0 / 0.0;
     }
     x[i]
+}
+
+// The number at i becomes v; past the end there is nothing to change.
+pub fn put(x: &mut [f64], i: usize, v: f64)
+    ensures { λ _. ⌜ now (x .exit) ≡ set (now (x .entry)) i v ⌝ }
+{
+    if x.len() <= i {
+        return;
+    }
+    x[i] = v;
 }

@@ -6,7 +6,7 @@ use Rattle.groups.proofs.complete.Tie as tie
 
 returns : tie.Need-returns
 unfolding completed
-returns c = rw (← c .before .before .before .before .before .before .stamp-dependent .ensures) (c .before .before .stamp-storage-if .ensures)
+returns c = rw (← c .before .before .before .before .before .before .stamp-dependent .ensures) (c .before .before .stamp-storage .ensures)
 
 pub complete-spec : {M : Type 1} → statement M
 complete-spec = tie.close (tie.spec (λ c κs. search needs) (λ c κs. search needs) (λ c. search needs) returns)

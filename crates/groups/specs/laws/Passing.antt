@@ -13,7 +13,7 @@ use Rattle.sheet.specs.declared.Decoded.the-variants.{Good, Refused}
 use Rattle.sheet.specs.Record.{kindAt}
 use Rattle.sheet.specs.Kind.{kindOf}
 use Rattle.sheet.specs.laws.Kind.{kind-at}
-use Rattle.groups.specs.Records.{elementAt, onRecord, outside, recordIn}
+use Rattle.groups.specs.Records.{elementAt, onRecord, unless, outside, recordIn}
 
 -- a group of one kind: each other kind is outside, and it is not
 pub apart : (kind k : ℕ) → (k ≡ kind → ⊥) → outside kind kind k ≡ true
@@ -22,19 +22,26 @@ apart kind k h = ⊎-elim (λ e. absurd (h e)) (λ l. ⊎-elim (λ p. rw (lt-ltb
 pub itself : (kind k : ℕ) → k ≡ kind → outside kind kind k ≡ false
 itself kind k e = rw (le-ltb k kind (omega arith), le-ltb kind k (omega arith))
 
+-- what f makes of each element of whose kind a test holds is x
+abbrev pub Silent : {X : Type 0} → (ℕ → Bool) → (Element → X) → X → Type 0
+Silent skip f x = (e : Element) → skip (kindOf e) ≡ true → f e ≡ x
+
 -- what f makes of each element of another kind is x
 abbrev pub Quiet : {X : Type 0} → ℕ → ℕ → (Element → X) → X → Type 0
-Quiet low high f x = (e : Element) → outside low high (kindOf e) ≡ true → f e ≡ x
+Quiet low high f x = Silent (outside low high) f x
 
-module _ {X : Type 0} (low high : ℕ) (sheet : List ℕ) (i : ℕ) (f : Element → X) (x : X) (quiet : Quiet low high f x) where
-  passed : outside low high (kindAt sheet i) ≡ true → (d : Decoded) → elementAt sheet i ≡ d → x ≡ onRecord f x d
-  passed h (Good e) g = sym (quiet e (ap (outside low high) (sym (kind-at sheet i e g)) ∙ h))
+module _ {X : Type 0} (skip : ℕ → Bool) (sheet : List ℕ) (i : ℕ) (f : Element → X) (x : X) (silent : Silent skip f x) where
+  passed : skip (kindAt sheet i) ≡ true → (d : Decoded) → elementAt sheet i ≡ d → x ≡ onRecord f x d
+  passed h (Good e) g = sym (silent e (ap skip (sym (kind-at sheet i e g)) ∙ h))
   passed h (Refused k) g = refl
 
-  pub in-group : onRecord f x (recordIn low high sheet i) ≡ onRecord f x (elementAt sheet i)
-  unfolding recordIn
-  in-group = by-kind (outside low high (kindAt sheet i)) refl
+  pub passed-by : onRecord f x (unless skip sheet i) ≡ onRecord f x (elementAt sheet i)
+  passed-by = by-kind (skip (kindAt sheet i)) refl
     where
-      by-kind : (b : Bool) → outside low high (kindAt sheet i) ≡ b → onRecord f x (recordIn low high sheet i) ≡ onRecord f x (elementAt sheet i)
+      by-kind : (b : Bool) → skip (kindAt sheet i) ≡ b → onRecord f x (unless skip sheet i) ≡ onRecord f x (elementAt sheet i)
       by-kind true h = rw h (passed h (elementAt sheet i) refl)
       by-kind false h = rw h
+
+pub in-group : {X : Type 0} (low high : ℕ) (sheet : List ℕ) (i : ℕ) (f : Element → X) (x : X) → Quiet low high f x → onRecord f x (recordIn low high sheet i) ≡ onRecord f x (elementAt sheet i)
+unfolding recordIn
+in-group low high sheet i f x quiet = passed-by (outside low high) sheet i f x quiet

@@ -13,7 +13,7 @@ use Rattle.options.specs.declared.Options.{Options}
 use Rattle.loops.specs.Loop.{copied}
 use Rattle.loops.specs.laws.Loop.{turns-inv}
 use Rattle.sheet.specs.declared.Element.{Element}
-use Rattle.sheet.specs.declared.Element.the-variants.{R, I, «V», D, Isin, Vsin, Vpwl, C, Vcvs, Vccs}
+use Rattle.sheet.specs.declared.Element.the-variants.{R, I, «V», D, Isin, Vsin, Vpwl, C, Vcvs, Vccs, L}
 use Rattle.sheet.specs.Check.{recordsOf}
 use Rattle.sheet.specs.Row.{rowOf}
 use Rattle.stamps.specs.Write.{Write}
@@ -57,6 +57,7 @@ module _ (w : Pass) (dc : w .transient ≡ false) (points : List ℕ) where
   element-whole m (C p q x) = refl
   element-whole m (Vcvs p q cp cq x s) = refl
   element-whole m (Vccs p q cp cq x) = refl
+  element-whole m (L p q x s) = refl
 
   record-whole : (sheet : List ℕ) (i : ℕ) (x : Driven) → Whole x → Whole (drivenAt w sheet points i x)
   unfolding drivenAt
@@ -69,11 +70,11 @@ module _ (w : Pass) (dc : w .transient ≡ false) (points : List ℕ) where
 
 module _ (p : Pass) (dc : p .transient ≡ false) (sheet points : List ℕ) (base x : List Float) where
   -- what is stamped before the diodes is whole
-  pub linear-in-dc : (m : List Float) → linearOf p sheet points base x m .code ≡ 0
+  pub linear-in-dc : (y m : List Float) → linearOf p sheet points base x y m .code ≡ 0
   unfolding linearOf
-  linear-in-dc m = rw (eq-eqb _ _ (independent-in-dc p dc points sheet (copied base m)))
+  linear-in-dc y m = rw (eq-eqb _ _ (independent-in-dc p dc points sheet (copied base m)))
 
   -- so that only a diode can end the pass
   pub stamp-in-dc : (o : Options) (v y m : List Float) → (stampOf o p sheet points base x v y m .code ≡ 0) ⊎ (stampOf o p sheet points base x v y m .code ≡ diodeCurrent)
   unfolding stampOf
-  stamp-in-dc o v y m = rw (eq-eqb _ _ (linear-in-dc m)) (diodes-fine o sheet (p .order) v (linearOf p sheet points base x m .matrix) y .2)
+  stamp-in-dc o v y m = rw (eq-eqb _ _ (linear-in-dc y m)) (diodes-fine o sheet (p .order) v (linearOf p sheet points base x y m .matrix) y .2)

@@ -1,5 +1,5 @@
 -- Laws of a pass's stamping: no length changes, its verdicts are 0, 22 and 26, and the memory of a record that is no diode stays. Assumes nothing.
--- Clients cite Fine, fine and memory-stays; a further law of stamping on-record and diodes-fine.
+-- Clients cite Fine, fine and memory-stays; a further law of stamping on-record, diodes-fine and diodes-leave.
 use Prim.Native.Nat.{ℕ}
 use mathlib.Core.Path.{_≡_, refl, sym, ap, _∙_}
 use mathlib.Core.Logic.{_⊎_, inl, inr, ⊎-elim}
@@ -16,7 +16,7 @@ use Rattle.options.specs.declared.Options.{Options}
 use Rattle.loops.specs.Loop.{copied}
 use Rattle.loops.specs.laws.Loop.{turns-inv, copied-length}
 use Rattle.sheet.specs.declared.Element.{Element}
-use Rattle.sheet.specs.declared.Element.the-variants.{R, I, «V», D, Isin, Vsin, Vpwl, C, Vcvs, Vccs}
+use Rattle.sheet.specs.declared.Element.the-variants.{R, I, «V», D, Isin, Vsin, Vpwl, C, Vcvs, Vccs, L}
 use Rattle.sheet.specs.declared.Decoded.{Decoded}
 use Rattle.sheet.specs.declared.Decoded.the-variants.{Good, Refused}
 use Rattle.sheet.specs.Record.{kindAt}
@@ -35,7 +35,8 @@ use Rattle.models.specs.declared.diode.Linear.{Linear}
 use Rattle.models.specs.declared.diode.Linear.the-variants.{Model, NotFinite}
 use Rattle.groups.specs.declared.Pass.{Pass}
 use Rattle.groups.specs.Records.{elementAt, onRecord, across}
-use Rattle.groups.specs.Plain.{dependentOf, storageOf}
+use Rattle.groups.specs.Plain.{dependentOf}
+use Rattle.groups.specs.Storage.{storageOf}
 use Rattle.groups.specs.Sources.{Driven, drivenOf, sourceTime, levelled, driven, drivenAt, independentOf}
 use Rattle.groups.specs.Diodes.{Stamped, stampedOf, companion, biased, biasedAt, diodesOf}
 use Rattle.groups.specs.Stamping.{completed, linearOf, stampOf}
@@ -68,6 +69,7 @@ driven-fine w points m (D p q x y) = (refl, inl refl)
 driven-fine w points m (C p q x) = (refl, inl refl)
 driven-fine w points m (Vcvs p q cp cq x s) = (refl, inl refl)
 driven-fine w points m (Vccs p q cp cq x) = (refl, inl refl)
+driven-fine w points m (L p q x s) = (refl, inl refl)
 
 source-fine : (w : Pass) (sheet points : List ℕ) (m : List Float) (i : ℕ) (x : Driven) → Sourced m x → (b : Bool) → eqb (x .code) 0 ≡ b → Sourced m (drivenAt w sheet points i x)
 unfolding drivenAt
@@ -111,6 +113,7 @@ biased-fine o n x i m y (Vpwl p q v w f k s) = untouched i m y
 biased-fine o n x i m y (C p q v) = untouched i m y
 biased-fine o n x i m y (Vcvs p q cp cq k s) = untouched i m y
 biased-fine o n x i m y (Vccs p q cp cq k) = untouched i m y
+biased-fine o n x i m y (L p q v s) = untouched i m y
 
 -- what any number of records makes of them
 abbrev pub Kept : List Float → List Float → Stamped → Type 0
@@ -150,7 +153,7 @@ module _ (o : Options) (sheet : List ℕ) (n : ℕ) (x : List Float) (j : ℕ) (
   diode-leaves v i s k true e = rw e (record-leaves i (s .matrix) (s .memory) ∙ k)
   diode-leaves v i s k false e = rw e k
 
-  diodes-leave : (m y : List Float) → getD (diodesOf o sheet n x m y .memory) j nan ≡ getD y j nan
+  pub diodes-leave : (m y : List Float) → getD (diodesOf o sheet n x m y .memory) j nan ≡ getD y j nan
   unfolding diodesOf
   diodes-leave m y =
       turns-inv (λ (s : Stamped). getD (s .memory) j nan ≡ getD y j nan) (biasedAt o sheet n x) (recordsOf sheet) (stampedOf 0 m y) refl
@@ -164,18 +167,13 @@ pub record Fine (m y : List Float) (s : Stamped) : Type 0 where
   pub memory-length : length (s .memory) ≡ length y
   pub coded : (s .code ≡ 0) ⊎ ((s .code ≡ diodeCurrent) ⊎ (s .code ≡ sineRefused))
 
-added-length : (n : ℕ) (x : List Float) (step : Float) (sheet : List ℕ) (m : List Float) (b : Bool) → length (cond b (storageOf n x step sheet m) m) ≡ length m
-unfolding storageOf
-added-length n x step sheet m true = stamped-length n _ m
-added-length n x step sheet m false = refl
+completed-length : (p : Pass) (sheet : List ℕ) (x y m : List Float) → length (completed p sheet x y m) ≡ length m
+unfolding completed dependentOf storageOf
+completed-length p sheet x y m = stamped-length (p .order) _ (dependentOf (p .nodes) (p .order) sheet m) ∙ stamped-length (p .order) _ m
 
-completed-length : (p : Pass) (sheet : List ℕ) (x m : List Float) → length (completed p sheet x m) ≡ length m
-unfolding completed dependentOf
-completed-length p sheet x m = added-length (p .order) x (p .step) sheet (dependentOf (p .nodes) (p .order) sheet m) (p .transient) ∙ stamped-length (p .order) _ m
-
-linear-fine : (p : Pass) (sheet points : List ℕ) (base x m : List Float) → Sourced m (linearOf p sheet points base x m)
+linear-fine : (p : Pass) (sheet points : List ℕ) (base x y m : List Float) → Sourced m (linearOf p sheet points base x y m)
 unfolding linearOf
-linear-fine p sheet points base x m = by-code (eqb (a .code) 0) refl
+linear-fine p sheet points base x y m = by-code (eqb (a .code) 0) refl
   where
     a : Driven
     a = independentOf p sheet points (copied base m)
@@ -183,8 +181,8 @@ linear-fine p sheet points base x m = by-code (eqb (a .code) 0) refl
     k : Sourced (copied base m) a
     k = independent-fine p sheet points (copied base m)
 
-    by-code : (b : Bool) → eqb (a .code) 0 ≡ b → Sourced m (linearOf p sheet points base x m)
-    by-code true e = rw e (completed-length p sheet x (a .matrix) ∙ (k .0 ∙ copied-length base m), inl refl)
+    by-code : (b : Bool) → eqb (a .code) 0 ≡ b → Sourced m (linearOf p sheet points base x y m)
+    by-code true e = rw e (completed-length p sheet x y (a .matrix) ∙ (k .0 ∙ copied-length base m), inl refl)
     by-code false e = rw e (k .0 ∙ copied-length base m, k .1)
 
 module _ (o : Options) (p : Pass) (sheet points : List ℕ) (base x v y m : List Float) where
@@ -193,10 +191,10 @@ module _ (o : Options) (p : Pass) (sheet points : List ℕ) (base x v y m : List
   fine = by-code (eqb (l .code) 0) refl
     where
       l : Driven
-      l = linearOf p sheet points base x m
+      l = linearOf p sheet points base x y m
 
       k : Sourced m l
-      k = linear-fine p sheet points base x m
+      k = linear-fine p sheet points base x y m
 
       by-code : (b : Bool) → eqb (l .code) 0 ≡ b → Fine m y (stampOf o p sheet points base x v y m)
       by-code true e =
@@ -207,8 +205,8 @@ module _ (o : Options) (p : Pass) (sheet points : List ℕ) (base x v y m : List
   -- "other records' floats untouched"
   pub memory-stays : (j : ℕ) → (kindAt sheet j ≡ diode → ⊥) → getD (stampOf o p sheet points base x v y m .memory) j nan ≡ getD y j nan
   unfolding stampOf
-  memory-stays j other = by-code (eqb (linearOf p sheet points base x m .code) 0) refl
+  memory-stays j other = by-code (eqb (linearOf p sheet points base x y m .code) 0) refl
     where
-      by-code : (b : Bool) → eqb (linearOf p sheet points base x m .code) 0 ≡ b → getD (stampOf o p sheet points base x v y m .memory) j nan ≡ getD y j nan
+      by-code : (b : Bool) → eqb (linearOf p sheet points base x y m .code) 0 ≡ b → getD (stampOf o p sheet points base x v y m .memory) j nan ≡ getD y j nan
       by-code true e = rw e (diodes-leave o sheet (p .order) v j other _ y)
       by-code false e = rw e

@@ -10,7 +10,7 @@ use Rattle.groups.proofs.diodes.diode_one.Statement.{statement}
 use Rattle.groups.proofs.diodes.diode_one.Tie as tie
 
 returns : tie.Need-returns
-returns c = sym (quiet-biased _ _ _ _ _ _ _ (other-kind 4 4 (0 ∷ 1 ∷ 2 ∷ 4 ∷ 5 ∷ 6 ∷ 7 ∷ 8 ∷ 9 ∷ []) _ (c .match .keys2) refl))
+returns c = sym (quiet-biased _ _ _ _ _ _ _ (other-kind 4 4 (0 ∷ 1 ∷ 2 ∷ 4 ∷ 5 ∷ 6 ∷ 7 ∷ 8 ∷ 9 ∷ 10 ∷ []) _ (c .match .keys2) refl))
 
 returns-2 : tie.Need-returns-2
 unfolding biased linearized

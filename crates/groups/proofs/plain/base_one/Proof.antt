@@ -27,7 +27,7 @@ returns-4 c = rw (c .before .before .before .before .before .before .before .bef
 
 returns-5 : tie.Need-returns-5
 unfolding stamped
-returns-5 c = rw (c .before .before .d .given .1, quiet-base _ _ _ (other-kind 1 3 (3 ∷ 4 ∷ 5 ∷ 6 ∷ 7 ∷ 8 ∷ 9 ∷ []) _ (c .match2 .keys4) refl))
+returns-5 c = rw (c .before .before .d .given .1, quiet-base _ _ _ (other-kind 1 3 (3 ∷ 4 ∷ 5 ∷ 6 ∷ 7 ∷ 8 ∷ 9 ∷ 10 ∷ []) _ (c .match2 .keys4) refl))
 
 pub base-one-spec : {M : Type 1} → statement M
 base-one-spec =

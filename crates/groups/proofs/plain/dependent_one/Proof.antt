@@ -23,7 +23,7 @@ returns-3 c = rw (c .before .before .before .before .before .before .before .bef
 
 returns-4 : tie.Need-returns-4
 unfolding stamped
-returns-4 c = rw (c .before .before .d .given .1, quiet-dependent _ _ _ (other-kind 9 10 (0 ∷ 1 ∷ 2 ∷ 3 ∷ 4 ∷ 5 ∷ 6 ∷ 7 ∷ []) _ (c .match2 .keys3) refl))
+returns-4 c = rw (c .before .before .d .given .1, quiet-dependent _ _ _ (other-kind 9 10 (0 ∷ 1 ∷ 2 ∷ 3 ∷ 4 ∷ 5 ∷ 6 ∷ 7 ∷ 10 ∷ []) _ (c .match2 .keys3) refl))
 
 pub dependent-one-spec : {M : Type 1} → statement M
 dependent-one-spec =

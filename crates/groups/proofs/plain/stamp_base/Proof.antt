@@ -4,12 +4,12 @@ use Prim.Native.Nat.{_-_}
 use Rattle.numbers.specs.Kinds.{resistor, voltage}
 use Rattle.groups.specs.Plain.{baseWrites, basedOn}
 use Rattle.groups.specs.laws.Quiet.{quiet-base}
-use Rattle.groups.proofs.Walk.{Walking, at-first, one-more, at-last}
+use Rattle.groups.proofs.Walk.{Walking, at-first, one-more-in, at-last}
 use Rattle.groups.proofs.plain.stamp_base.Statement.{statement}
 use Rattle.groups.proofs.plain.stamp_base.Tie as tie
 
 abbrev Inv-loop : tie.InvT-loop
-Inv-loop sheet nodes n m₀ count i₀ m i = Walking (baseWrites nodes n) n sheet m₀ count i m
+Inv-loop sheet nodes n m₀ count i₀ m i = Walking (λ _. baseWrites nodes n) n sheet m₀ count i m
 
 abbrev μ-loop : tie.MeasureT-loop
 μ-loop sheet nodes n m₀ count i₀ m i = count - i
@@ -22,14 +22,14 @@ loop-again c =
     let a = c .before .before .before .before .before .before .before .before .before .before .args in
     let l = c .before .before .before .before .before .before .loop in
     let f = baseWrites (a .nodes) (a .n) in
-    one-more f (a .n) (a .sheet .now) (a .m .now) resistor voltage (quiet-base (a .nodes) (a .n)) _ (l .i) _ _ _
+    one-more-in f resistor voltage (a .n) (a .sheet .now) (a .m .now) (quiet-base (a .nodes) (a .n)) _ (l .i) _ _ _
     (c .before .before .before .before .before .loop-test .taken) (l .inv) (c .before .before .before .before .record-in .ensures) (c .before .before .base-one .ensures)
 
 returns : tie.Need-returns Inv-loop μ-loop
 unfolding basedOn
 returns c =
     let a = c .before .before .before .before .before .args in
-    at-last (baseWrites (a .nodes) (a .n)) (a .n) (a .sheet .now) (a .m .now) _ _ _ (c .before .before .records .ensures) (c .loop-test .left) (c .before .loop .inv)
+    at-last (λ _. baseWrites (a .nodes) (a .n)) (a .n) (a .sheet .now) (a .m .now) _ _ _ (c .before .before .records .ensures) (c .loop-test .left) (c .before .loop .inv)
 
 pub stamp-base-spec : {M : Type 1} → statement M
 stamp-base-spec =

@@ -30,7 +30,7 @@ returns-4 c =
     rw (b .before .before .before .before .before .d .given .1, b .before .before .e3 .given .1) (rw (b .pattern .ensures) at (c .before .before .voltage2 .ensures))
 
 returns-5 : tie.Need-returns-5
-returns-5 c = rw (c .before .before .d .given .1, quiet-driven _ _ _ _ (other-kind 5 7 (0 ∷ 1 ∷ 2 ∷ 3 ∷ 7 ∷ 8 ∷ 9 ∷ []) _ (c .match2 .keys4) refl))
+returns-5 c = rw (c .before .before .d .given .1, quiet-driven _ _ _ _ (other-kind 5 7 (0 ∷ 1 ∷ 2 ∷ 3 ∷ 7 ∷ 8 ∷ 9 ∷ 10 ∷ []) _ (c .match2 .keys4) refl))
 
 pub source-one-spec : {M : Type 1} → statement M
 source-one-spec =

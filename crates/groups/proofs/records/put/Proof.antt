@@ -1,9 +1,9 @@
--- `groups::diodes::put` meets its contract: past the end there is nothing to set. Assumes nothing.
+-- `groups::records::put` meets its contract: past the end there is nothing to set. Assumes nothing.
 use borrow.Author.Needs.{needs}
 use mathlib.Core.Path.{sym}
 use lib.Seq.{set-out}
-use Rattle.groups.proofs.diodes.put.Statement.{statement}
-use Rattle.groups.proofs.diodes.put.Tie as tie
+use Rattle.groups.proofs.records.put.Statement.{statement}
+use Rattle.groups.proofs.records.put.Tie as tie
 
 returns : tie.Need-returns
 returns c = sym (set-out _ _ _ (c .if1 .taken))
