@@ -1,7 +1,8 @@
 -- The run as a machine of passes. `f` stamps and solves: it is the machine's one parameter. A pass leaves an ended run alone, and the run of a budget
--- is so many passes; 24 is not in the machine, but how counters read that are still going when the budget ends (`verdictOf`).
+-- is so many passes; 24 is not in the machine, but how counters read that are still going when the budget ends (`verdictOf`). A coil's current moves only
+-- where a vector is taken (`takes`): where DC is over by a solved pass, and where a step is accepted.
 use Prim.Native.Nat.{ℕ, zero, suc, _+_, _*_, _/_}
-use mathlib.Core.Bool.{Bool, true, false, cond}
+use mathlib.Core.Bool.{Bool, true, false, cond, not, _&&_}
 use mathlib.Core.List.{List, [], _∷_}
 use lib.Dec.{eqb, ltb}
 use lib.ListN.{length}
@@ -16,7 +17,7 @@ use Rattle.steps.specs.declared.Report.the-variants.{Yes, No, Error, Diode, Sin
 use Rattle.numbers.specs.Verdicts.{diodeCurrent, noRoom}
 use Rattle.steps.specs.Phases.{dcPhase, transientPhase}
 use Rattle.steps.specs.Counters.{ended, written}
-use Rattle.steps.specs.Control.{reportOf, waited, dcAfter, stepAfter, rowDue}
+use Rattle.steps.specs.Control.{reportOf, solved, waited, dcAfter, stepAfter, rowDue}
 use Rattle.machine.specs.State.{Buffers, buffersOf, State, stateOf, Attempt, Tried, triedOf, Written, writtenOf}
 
 -- ---- stamp, solve, compare
@@ -45,8 +46,31 @@ tried f j c accepted x =
     let t = compared f j c accepted x in
     triedOf (waited (j .options) (f c accepted x .behind) (t .report)) (t .system) (t .vector) (t .memory)
 
+-- ---- where a vector is taken
+
+-- a step is accepted by "yes" alone
+abbrev pub accepts : Report → Bool
+accepts Yes = true
+accepts No = false
+accepts Error = false
+accepts Diode = false
+accepts Sine = false
+
+-- whether the vector of a pass is taken: DC's when DC is over by a solved pass (0, 20 or 21), a step's when it is accepted
+unfoldable pub takes : Job → Counters → Report → Bool
+takes j c r =
+    cond (eqb (c .phase) dcPhase)
+    (solved r && not (eqb (dcAfter (j .options) (j .transient) r c .phase) dcPhase))
+    (accepts r)
+
+-- the attempt with its report, and where its vector is taken the coils have taken their currents
+unfoldable pub took : Attempt → Job → Counters → List Float → Buffers → Tried
+took f j c accepted x =
+    let t = tried f j c accepted x in
+    triedOf (t .report) (t .system) (t .vector) (cond (takes j c (t .report)) (f c accepted x .taken) (t .memory))
+
 abbrev pub triedBy : Attempt → Job → State → Tried
-triedBy f j s = tried f j (s .counters) (s .accepted) (s .buffers)
+triedBy f j s = took f j (s .counters) (s .accepted) (s .buffers)
 
 -- ---- rows: a row is time, then N numbers
 
@@ -74,13 +98,6 @@ dcPass f j s =
     let t = triedBy f j s in
     let c = dcAfter (j .options) (j .transient) (t .report) (s .counters) in
     after s (s .accepted) t (cond (eqb (c .phase) transientPhase) (writtenBy c (t .vector) (s .buffers .rows)) (writtenOf c (s .buffers .rows)))
-
-abbrev pub accepts : Report → Bool
-accepts Yes = true
-accepts No = false
-accepts Error = false
-accepts Diode = false
-accepts Sine = false
 
 -- the accepted vector a after a pass that leaves v: a step that is accepted puts v in its place, and DC accepts none
 unfoldable pub acceptedBy : Report → Counters → List Float → List Float → List Float

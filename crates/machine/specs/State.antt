@@ -13,7 +13,7 @@ pub record Buffers : Type 0 where
   pub system : List Float
   -- the last solved vector
   pub vector : List Float
-  -- each diode's last limited voltage
+  -- each diode's last limited voltage, and each coil's last accepted current
   pub memory : List Float
   pub rows : List Float
 
@@ -36,13 +36,16 @@ pub record Solved : Type 0 where
   pub vector : List Float
   pub memory : List Float
 
--- the same, and the first diode that is then behind: 0 for none, else 1 and its record's place
+-- the same, and what the machine asks of it besides
 pub record Attempted : Type 0 where
   pub fault : ℕ
   pub system : List Float
   pub vector : List Float
   pub memory : List Float
+  -- the first diode that is then behind: 0 for none, else 1 and its record's place
   pub behind : ℕ
+  -- the memory if this vector is taken: each coil has then taken its new current
+  pub taken : List Float
 
 -- of stamping and solving the machine knows no more than this: what it makes of the counters, the accepted vector and the buffers
 abbrev pub Attempt : Type 0

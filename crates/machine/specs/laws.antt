@@ -7,3 +7,4 @@ pub mod Rows
 pub mod NoSine
 pub mod Settles
 pub mod Switched
+pub mod Taken

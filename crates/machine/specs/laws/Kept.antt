@@ -23,7 +23,7 @@ use Rattle.steps.specs.laws.Control.{fills, Fails, «at-diode», «at-sine», C
 use Rattle.steps.specs.Control.{solved}
 use Rattle.steps.specs.declared.Job.{Job}
 use Rattle.machine.specs.State.{State, Attempt, Written}
-use Rattle.machine.specs.Machine.{before, compared, tried, triedBy, writtenBy, landed, accepts, dcPass, stepPass, pass}
+use Rattle.machine.specs.Machine.{before, compared, tried, took, triedBy, writtenBy, landed, accepts, dcPass, stepPass, pass}
 use Rattle.machine.specs.laws.Budget.{pass-stopped}
 
 -- ---- what an attempt reports
@@ -44,15 +44,15 @@ module _ (f : Attempt) (j : Job) (s : State) where
   behindAt = f (s .counters) (s .accepted) (s .buffers) .behind
 
   report-solved : eqb faultAt 0 ≡ true → solved (triedBy f j s .report) ≡ true
-  unfolding tried compared
+  unfolding took tried compared
   report-solved h = waited-solved (j .options) behindAt _ ∙ (rw h (check-solved (convergenceOf (f (s .counters) (s .accepted) (s .buffers) .vector) (before (s .counters .first) (s .buffers .vector)) (j .nodes) (j .options))))
 
   report-diode : eqb faultAt 0 ≡ false → eqb faultAt diodeCurrent ≡ true → triedBy f j s .report ≡ Diode
-  unfolding tried compared waited
+  unfolding took tried compared waited
   report-diode h d = rw (h, d)
 
   report-sine : eqb faultAt 0 ≡ false → eqb faultAt diodeCurrent ≡ false → triedBy f j s .report ≡ Sine
-  unfolding tried compared waited
+  unfolding took tried compared waited
   report-sine h d = rw (h, d)
 
 -- ---- a pass that is solved

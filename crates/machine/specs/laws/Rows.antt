@@ -24,7 +24,7 @@ use Rattle.steps.specs.Control.{dcAfter, stepAfter, rowDue}
 use Rattle.steps.specs.laws.Control.{next-more, next-least, Closed, dc-keeps, step-keeps}
 use Rattle.steps.specs.declared.Job.{Job}
 use Rattle.machine.specs.State.{Buffers, State, Attempt, Written, writtenOf}
-use Rattle.machine.specs.Machine.{compared, tried, triedBy, writtenBy, landed, after, accepts, dcPass, stepPass, pass, runFor}
+use Rattle.machine.specs.Machine.{compared, tried, took, triedBy, writtenBy, landed, after, accepts, dcPass, stepPass, pass, runFor}
 
 -- ---- one row
 
@@ -147,7 +147,7 @@ pub record Grown (k n : ℕ) (old : List Float) (t : State) : Type 0 where
 
 module _ (f : Attempt) (j : Job) (n : ℕ) (steady : Steady n f) (k : ℕ) where
   long-tried : (s : State) → length (s .buffers .vector) ≡ n → length (triedBy f j s .vector) ≡ n
-  unfolding tried compared
+  unfolding took tried compared
   long-tried s l = steady (s .counters) (s .accepted) (s .buffers) l
 
   module _ (s : State) (small : length (s .buffers .rows) ≤ top) (h : k ≤ s .counters .rows) (l : length (s .buffers .vector) ≡ n) where

@@ -24,7 +24,7 @@ use Rattle.steps.specs.laws.Control.{next-more}
 use Rattle.steps.specs.laws.Waited.{waited-off}
 use Rattle.steps.specs.laws.Switched.{withCatchup}
 use Rattle.machine.specs.State.{Buffers, buffersOf, State, stateOf, Attempt, writtenOf}
-use Rattle.machine.specs.Machine.{compared, tried, triedBy, writtenBy, dcPass, pass, runFor}
+use Rattle.machine.specs.Machine.{compared, tried, takes, took, triedBy, writtenBy, dcPass, pass, runFor}
 use Rattle.machine.specs.laws.Budget.{pass-dc, pass-stopped}
 
 -- a DC run is in DC or over
@@ -135,18 +135,27 @@ module _ (f : Attempt) (o : Options) (nodes : ℕ) where
   abbrev reports : ℕ → State → Report
   reports w s = waited (withCatchup w o) (f (s .counters) (s .accepted) (s .buffers) .behind) (says s)
 
-  -- a DC pass with the report r: what the attempt gives, and the counters after it
+  -- a DC pass with the report r: what the attempt gives, its memory as the vector is taken or not, and the counters after it
   abbrev shaped : ℕ → Report → State → State
   shaped w r s =
       let a = f (s .counters) (s .accepted) (s .buffers) in
-      stateOf (dcAfter (withCatchup w o) false r (s .counters)) (s .accepted) (buffersOf (s .buffers .base) (a .system) (a .vector) (a .memory) (s .buffers .rows))
+      let m = cond (takes (job w) (s .counters) r) (a .taken) (a .memory) in
+      stateOf (dcAfter (withCatchup w o) false r (s .counters)) (s .accepted) (buffersOf (s .buffers .base) (a .system) (a .vector) m (s .buffers .rows))
+
+  -- where the report is the same, the switch does not matter
+  takes-same : (w : ℕ) (c : Counters) (r : Report) → takes (job w) c r ≡ takes (job 0) c r
+  unfolding takes
+  takes-same w c r = rw (control-same o w 0 r c)
+
+  shaped-same : (w : ℕ) (r : Report) (s : State) → shaped w r s ≡ shaped 0 r s
+  shaped-same w r s = rw (control-same o w 0 r (s .counters), takes-same w (s .counters) r)
 
   named : (w : ℕ) (s : State) → s .counters .phase ≡ dcPhase → (r : Report) → triedBy f (job w) s .report ≡ r → dcPass f (job w) s ≡ shaped w r s
-  unfolding dcPass tried compared
+  unfolding dcPass took tried compared
   named w s h r e = rw (e, never-steps (withCatchup w o) r (s .counters) h .0)
 
   told : (w : ℕ) (s : State) → triedBy f (job w) s .report ≡ reports w s
-  unfolding tried
+  unfolding took tried
   told w s = ap (waited (withCatchup w o) (f (s .counters) (s .accepted) (s .buffers) .behind)) (says-same w s)
 
   dc-shaped : (w : ℕ) (s : State) → s .counters .phase ≡ dcPhase → dcPass f (job w) s ≡ shaped w (reports w s) s
@@ -159,14 +168,9 @@ module _ (f : Attempt) (o : Options) (nodes : ℕ) where
         let b = f (s .counters) (s .accepted) (s .buffers) .behind in
         let off : reports 0 s ≡ says s = waited-off (withCatchup 0 o) b refl (says s) in
         ⊎-elim
-        (λ (e : reports w s ≡ says s). same (rw (e, off) (ap (λ (c : Counters). shapedAs c) (control-same o w 0 (says s) (s .counters)))))
+        (λ (e : reports w s ≡ says s). same (rw (e, off) (shaped-same w (says s) s)))
         (λ (e : (says s ≡ Yes) × (reports w s ≡ No)). apart (rw (e .1, off, e .0) (gets-ahead (withCatchup w o) (withCatchup 0 o) (s .counters) (rw h))))
         (either-way (withCatchup w o) b (says s))
-      where
-        shapedAs : Counters → State
-        shapedAs c =
-            let a = f (s .counters) (s .accepted) (s .buffers) in
-            stateOf c (s .accepted) (buffersOf (s .buffers .base) (a .system) (a .vector) (a .memory) (s .buffers .rows))
 
     -- ---- the two runs
 
