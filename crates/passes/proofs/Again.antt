@@ -2,12 +2,15 @@
 use Prim.Native.Nat.{ℕ}
 use mathlib.Core.Path.{_≡_, refl, sym, ap, _∙_}
 use mathlib.Core.Logic.{_⊎_, inl, inr, ⊎-elim}
-use mathlib.Core.Bool.{Bool, true, false, cond, false≢true}
+use mathlib.Core.Bool.{Bool, true, false, cond, _&&_, false≢true}
 use mathlib.Core.List.{List}
+use borrow.Author.Tests.{eq-eqb, ne-eqb, eqb-true, eqb-false}
 use lib.Dec.{eqb, ltb, leb}
+use lib.ListN.{length}
 use lib.Ieee as Ieee
 use lib.Ieee.{Float, binary64}
 use Rattle.options.specs.declared.Options.{Options}
+use Rattle.groups.specs.Storage.{takenOf}
 use Rattle.steps.specs.declared.Counters.{Counters}
 use Rattle.steps.specs.declared.Job.{Job}
 use Rattle.steps.specs.declared.Report.{Report}
@@ -18,9 +21,9 @@ use Rattle.steps.specs.Counters.{counted, ended, again, withStep, written, goin
 use Rattle.steps.specs.Control.{dcOver, dcAfter, moved, shortened, stepAfter, rowDue}
 use Rattle.steps.specs.Control.{solved}
 use Rattle.machine.specs.State.{Written, writtenOf}
-use Rattle.machine.specs.Machine.{writtenBy, landed, accepts}
-use Rattle.passes.specs.Attempt.{Circuit}
-use Rattle.passes.specs.Again.{linearAt, alike, Holds}
+use Rattle.machine.specs.Machine.{writtenBy, landed, accepts, takes}
+use Rattle.passes.specs.Attempt.{Circuit, passOf}
+use Rattle.passes.specs.Again.{linearAt, alike, Holds, memoryAfter}
 use Rattle.passes.specs.Done.{dcDone, stepDone, Aftermath, aftermathOf, aftermath}
 
 -- the same pass is stamped at both
@@ -29,9 +32,9 @@ pub record Same (d c : Counters) : Type 0 where
   pub time : d .time ≡ c .time
   pub step : d .step ≡ c .step
 
-pub moves : (k : Circuit) (d c : Counters) (a b held s v : List Float) → Same d c → Holds k c a b held s v → Holds k d a b held s v
-moves k d c a b held s v e h =
-    let q : linearAt k d a b ≡ linearAt k c a b = rw (e .phase, e .time, e .step) in
+pub moves : (k : Circuit) (d c : Counters) (a b held s v y : List Float) → Same d c → Holds k c a b held s v y → Holds k d a b held s v y
+moves k d c a b held s v y e h =
+    let q : linearAt k d a b y ≡ linearAt k c a b y = rw (e .phase, e .time, e .step) in
     record { whole = λ l. (q ∙ h .whole l .0, h .whole l .1); part = λ l. q ∙ h .part l }
 
 pub later : (c : Counters) → alike c ≡ true → c .first ≡ false
@@ -116,49 +119,70 @@ accepted-new o r c d w x rows z e y q g l = ⊎-elim (new (written d) refl refl)
     new : (v : Counters) → going d ≡ going v → alike d ≡ alike v → w ≡ v → ⊥
     new v a b p = false≢true (sym (step-alike o r c (ap going (sym e) ∙ (a ∙ (ap going (sym p) ∙ g))) (ap alike (sym e) ∙ (b ∙ (ap alike (sym p) ∙ l))) .0) ∙ y)
 
-module _ (k : Circuit) (j : Job) (r : Report) (c w : Counters) (a b held s v x rows z : List Float) (h : solved r ≡ true → Holds k c a b held s v) where
-  pub next-dc : writtenOf w z ≡ dcDone j r c x rows → going w ≡ true → alike w ≡ true → Holds k w a b held s v
+-- where the next pass is stamped as the last, no vector was taken
+dc-not-taken : (j : Job) (r : Report) (c : Counters) → c .phase ≡ dcPhase → Same (dcAfter (j .options) (j .transient) r c) c → takes j c r ≡ false
+unfolding takes
+dc-not-taken j r c h y = rw (eq-eqb _ _ h, eq-eqb _ _ (y .phase ∙ h)) (off (solved r))
+  where
+    off : (b : Bool) → (b && false) ≡ false
+    off true = refl
+    off false = refl
+
+step-not-taken : (j : Job) (r : Report) (c : Counters) → (c .phase ≡ dcPhase → ⊥) → accepts r ≡ false → takes j c r ≡ false
+unfolding takes
+step-not-taken j r c h y = rw (ne-eqb _ _ h, y)
+
+-- of a pass that the counters c began: y is the memory that its attempt left, u the memory after it
+module _ (k : Circuit) (j : Job) (r : Report) (c w : Counters) (a b held s v x rows z y u : List Float) (h : solved r ≡ true → Holds k c a b held s v y) (m : u ≡ memoryAfter j r c (k .sheet) x y) where
+  -- what is held goes on, if the pass was solved and nothing was taken
+  goes-on : (d : Counters) → solved r ≡ true → takes j c r ≡ false → Same d c → Holds k d a b held s v u
+  unfolding memoryAfter
+  goes-on d q t e =
+      let n : u ≡ y = m ∙ ap (λ (b : Bool). cond b (takenOf (passOf j (length x) c) (k .sheet) x y) y) t in
+      rw n (moves k d c a b held s v y e (h q))
+
+  pub next-dc : c .phase ≡ dcPhase → writtenOf w z ≡ dcDone j r c x rows → going w ≡ true → alike w ≡ true → Holds k w a b held s v u
   unfolding dcDone alike
-  next-dc e g l = go (eqb (dcAfter (j .options) (j .transient) r c .phase) transientPhase) e
+  next-dc dc e g l = go (eqb (dcAfter (j .options) (j .transient) r c .phase) transientPhase) e
     where
       d : Counters
       d = dcAfter (j .options) (j .transient) r c
 
-      same : going d ≡ true → alike d ≡ true → Holds k d a b held s v
+      same : going d ≡ true → alike d ≡ true → Holds k d a b held s v u
       same g l =
           let y = dc-alike (j .options) (j .transient) r c g (later d l) in
-          moves k d c a b held s v (y .1) (h (y .0))
+          goes-on d (y .0) (dc-not-taken j r c dc (y .1)) (y .1)
 
-      go : (q : Bool) → writtenOf w z ≡ cond q (writtenBy d x rows) (writtenOf d rows) → Holds k w a b held s v
+      go : (q : Bool) → writtenOf w z ≡ cond q (writtenBy d x rows) (writtenOf d rows) → Holds k w a b held s v u
       go true q =
           let p = write-going d w x rows z q g in
-          rw p (moves k (written d) d a b held s v (row-same d) (same (ap going (sym p) ∙ g) (ap alike (sym p) ∙ l)))
+          rw p (moves k (written d) d a b held s v u (row-same d) (same (ap going (sym p) ∙ g) (ap alike (sym p) ∙ l)))
       go false q =
           let p : w ≡ d = ap (λ (t : Written). t .counters) q in
           rw p (same (ap going (sym p) ∙ g) (ap alike (sym p) ∙ l))
 
-  pub next-step : (n : List Float) → writtenOf w z ≡ stepDone j r c x rows → n ≡ cond (accepts r) x a → going w ≡ true → alike w ≡ true → Holds k w n b held s v
+  pub next-step : (c .phase ≡ dcPhase → ⊥) → (n : List Float) → writtenOf w z ≡ stepDone j r c x rows → n ≡ cond (accepts r) x a → going w ≡ true → alike w ≡ true → Holds k w n b held s v u
   unfolding stepDone
-  next-step n e t g l = go (accepts r) refl e t
+  next-step dc n e t g l = go (accepts r) refl e t
     where
       d : Counters
       d = stepAfter (j .options) r c
 
-      go : (y : Bool) → accepts r ≡ y → writtenOf w z ≡ cond y (landed (j .options) d x rows) (writtenOf d rows) → n ≡ cond y x a → Holds k w n b held s v
+      go : (y : Bool) → accepts r ≡ y → writtenOf w z ≡ cond y (landed (j .options) d x rows) (writtenOf d rows) → n ≡ cond y x a → Holds k w n b held s v u
       go true y q t = absurd (accepted-new (j .options) r c d w x rows z refl y q g l)
       go false y q t =
           let p : w ≡ d = ap (λ (t : Written). t .counters) q in
           let m = step-alike (j .options) r c (ap going (sym p) ∙ g) (ap alike (sym p) ∙ l) in
-          rw (p, t) (moves k d c a b held s v (m .2) (h (m .1)))
+          rw (p, t) (goes-on d (m .1) (step-not-taken j r c dc (m .0)) (m .2))
 
-  pub next-pass : (n : List Float) → aftermathOf w n z ≡ aftermath j r c a x rows → going w ≡ true → alike w ≡ true → Holds k w n b held s v
+  pub next-pass : (n : List Float) → aftermathOf w n z ≡ aftermath j r c a x rows → going w ≡ true → alike w ≡ true → Holds k w n b held s v u
   unfolding aftermath
-  next-pass n e g l = go (eqb (c .phase) dcPhase) e
+  next-pass n e g l = go (eqb (c .phase) dcPhase) refl e
     where
-      go : (q : Bool)
+      go : (q : Bool) → eqb (c .phase) dcPhase ≡ q
           → aftermathOf w n z ≡ cond q (aftermathOf (dcDone j r c x rows .counters) a (dcDone j r c x rows .rows)) (aftermathOf (stepDone j r c x rows .counters) (cond (accepts r) x a) (stepDone j r c x rows .rows))
-          → Holds k w n b held s v
-      go true q =
+          → Holds k w n b held s v u
+      go true p q =
           let en : n ≡ a = ap (λ (y : Aftermath). y .accepted) q in
-          rw en (next-dc (ap (λ (y : Aftermath). writtenOf (y .counters) (y .rows)) q) g l)
-      go false q = next-step n (ap (λ (y : Aftermath). writtenOf (y .counters) (y .rows)) q) (ap (λ (y : Aftermath). y .accepted) q) g l
+          rw en (next-dc (eqb-true _ _ p) (ap (λ (y : Aftermath). writtenOf (y .counters) (y .rows)) q) g l)
+      go false p q = next-step (eqb-false _ _ p) n (ap (λ (y : Aftermath). writtenOf (y .counters) (y .rows)) q) (ap (λ (y : Aftermath). y .accepted) q) g l

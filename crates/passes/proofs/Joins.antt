@@ -3,8 +3,9 @@ use Prim.Native.Nat.{ℕ, _+_, _*_, _≤_}
 use mathlib.Core.Path.{_≡_, refl, sym, ap, _∙_, subst}
 use mathlib.Core.Bool.{Bool, true, false, cond}
 use mathlib.Core.List.{List, []}
-use lib.ListN.{length}
-use lib.Ieee.{Float}
+use lib.ListN.{length, getD}
+use lib.Ieee.{Float, nan}
+use Rattle.numbers.specs.Kinds.{diode, inductor}
 use borrow.Author.Tests.{ne-eqb, eqb-true, eqb-false, ltb-true}
 use native.Mathlib.Omega.{arith}
 use lib.Dec.{eqb, ltb}
@@ -24,17 +25,20 @@ use Rattle.behind.specs.Behind.{behindNumber}
 use Rattle.machine.specs.laws.Budget.{pass-dc, pass-step}
 use Rattle.groups.specs.declared.Pass.{Pass}
 use Rattle.groups.specs.Sources.{Driven, drivenOf}
-use Rattle.groups.specs.Diodes.{stampedOf, diodesOf}
+use Rattle.groups.specs.Diodes.{Stamped, stampedOf, diodesOf}
+use Rattle.groups.specs.Storage.{takenOf}
 use Rattle.groups.specs.Listed.{Listed}
 use Rattle.groups.specs.Stamping.{linearOf, stampOf}
 use Rattle.groups.specs.laws.Listed.{no-diodes}
+use Rattle.groups.specs.laws.Stamping.{diodes-leave}
+use Rattle.groups.specs.laws.Storage.{Currents, linear-same}
 use Rattle.solve.specs.Solve.{Solved, solvedAs, solution, solveOf}
 use Rattle.solve.specs.laws.Solve.{solution-length, solves-whole}
-use Rattle.machine.specs.State.{State, buffersOf, stateOf, Tried, triedOf, Written, writtenOf}
-use Rattle.machine.specs.Machine.{before, compared, tried, landed, after, accepts, dcPass, stepPass, pass}
-use Rattle.passes.specs.Attempt.{Circuit, attemptOf}
+use Rattle.machine.specs.State.{Solved as Left, State, buffersOf, stateOf, Tried, triedOf, Written, writtenOf}
+use Rattle.machine.specs.Machine.{before, compared, tried, takes, took, landed, after, accepts, dcPass, stepPass, pass}
+use Rattle.passes.specs.Attempt.{Circuit, passOf, solvedFrom, attemptOf}
 use Rattle.passes.specs.Sized.{Square}
-use Rattle.passes.specs.Again.{linearAt, failureOf, finished, bare, Holder, Holds}
+use Rattle.passes.specs.Again.{linearAt, failureOf, finished, bare, Holder, Holds, memoryAfter}
 use Rattle.passes.specs.Done.{dcDone, stepDone, Aftermath, aftermathOf, aftermath}
 use Rattle.passes.specs.Run.{Renewed, renewedOf, renewed}
 
@@ -51,18 +55,29 @@ module _ (j : Job) (r : ℕ) (first : Bool) (m x v m′ x′ v₁ v₂ : List Fl
 
 -- ---- an attempt, from its calls
 
+-- a pass leaves the memory that was stamped, solved or not
+solved-memory : (n : ℕ) (t : Stamped) (sys vec : List Float) → solvedFrom n t sys vec .memory ≡ t .memory
+solved-memory n t sys vec = go (eqb (t .code) 0) _ _ refl refl
+  where
+    go : (b : Bool) (p q : Left) → p .memory ≡ t .memory → q .memory ≡ t .memory → cond b p q .memory ≡ t .memory
+    go true p q e f = e
+    go false p q e f = f
+
+inductor-no-diode : inductor ≡ diode → ⊥
+inductor-no-diode h = omega (arith, h)
+
 -- stamping starts from a copy of the base, whatever stood in the matrix
-pub linear-anew : (p : Pass) (sheet points : List ℕ) (base x m : List Float) → length base ≡ length m → linearOf p sheet points base x m ≡ linearOf p sheet points base x base
+pub linear-anew : (p : Pass) (sheet points : List ℕ) (base x y m : List Float) → length base ≡ length m → linearOf p sheet points base x y m ≡ linearOf p sheet points base x y base
 unfolding linearOf
-linear-anew p sheet points base x m h = rw (copied-same base m h, copied-same base base refl)
+linear-anew p sheet points base x y m h = rw (copied-same base m h, copied-same base base refl)
 
 -- a code that is 0
 pub whole-code : (k : ℕ) (m : List Float) (l : Driven) → k ≡ 0 → drivenOf k m ≡ l → drivenOf 0 m ≡ l
 whole-code k m l z e = ap (λ (n : ℕ). drivenOf n m) (sym z) ∙ e
 
--- what an attempt tries does not depend on the rows
-pub any-rows : (k : Circuit) (j : Job) (c : Counters) (a b s v m w w′ : List Float) → tried (attemptOf k) j c a (buffersOf b s v m w) ≡ tried (attemptOf k) j c a (buffersOf b s v m w′)
-unfolding tried compared attemptOf
+-- what an attempt leaves does not depend on the rows
+any-rows : (k : Circuit) (j : Job) (c : Counters) (a b s v m w w′ : List Float) → took (attemptOf k) j c a (buffersOf b s v m w) ≡ took (attemptOf k) j c a (buffersOf b s v m w′)
+unfolding took tried compared attemptOf
 any-rows k j c a b s v m w w′ = refl
 
 module _ (k : Circuit) (c : Counters) (acc base sys vec mem : List Float) where
@@ -77,13 +92,21 @@ module _ (k : Circuit) (c : Counters) (acc base sys vec mem : List Float) where
       let o = k .job .options in
       rw w (ap (λ (t : Tried). triedOf (waited o (behindNumber o (k .sheet) (t .vector) (t .memory)) (t .report)) (t .system) (t .vector) (t .memory)) e)
 
+  -- once its vector is taken, or not
+  pub takes-over : (r : Report) (s v y u : List Float) → k .order ≡ length v → triedOf r s v y ≡ tried (attemptOf k) (k .job) c acc (buffersOf base sys vec mem []) → u ≡ memoryAfter (k .job) r c (k .sheet) v y
+      → triedOf r s v u ≡ took (attemptOf k) (k .job) c acc (buffersOf base sys vec mem [])
+  unfolding took tried compared attemptOf memoryAfter
+  takes-over r s v y u l e m =
+      rw (m, ← l)
+      (ap (λ (t : Tried). triedOf (t .report) (t .system) (t .vector) (cond (takes (k .job) c (t .report)) (takenOf (passOf (k .job) (k .order) c) (k .sheet) (t .vector) (t .memory)) (t .memory))) e)
+
   -- a sine ended it before the diodes
-  pub unstamped : (code : ℕ) (m : List Float) → drivenOf code m ≡ linearAt k c acc base → (code ≡ 0 → ⊥) → triedOf (failureOf code) sys vec mem ≡ whole
+  pub unstamped : (code : ℕ) (m : List Float) → drivenOf code m ≡ linearAt k c acc base mem → (code ≡ 0 → ⊥) → triedOf (failureOf code) sys vec mem ≡ whole
   unfolding compared attemptOf stampOf failureOf
   unstamped code m e z = rw (← e, ne-eqb _ _ z, ne-eqb _ _ z, ne-eqb _ _ z)
 
   -- it came to the diodes
-  pub stamped-first : (m : List Float) → drivenOf 0 m ≡ linearAt k c acc base → length vec ≡ k .order → finished (k .job) (c .first) (k .sheet) m sys vec mem ≡ whole
+  pub stamped-first : (m : List Float) → drivenOf 0 m ≡ linearAt k c acc base mem → length vec ≡ k .order → finished (k .job) (c .first) (k .sheet) m sys vec mem ≡ whole
   unfolding compared attemptOf stampOf finished
   stamped-first m e l = rw (← e, l)
 
@@ -94,7 +117,7 @@ module _ (k : Circuit) (c : Counters) (acc base sys vec mem : List Float) where
         no-diodes (k .job .options) (k .sheet) places n x m y (subst (λ (i : ℕ). Listed (k .sheet) i places) (holder .none free .0) (holder .listed)) (holder .none free .1)
 
     -- then the last pass's system and vector come again
-    pub repeated : linearAt k c acc base ≡ drivenOf 0 sys → vec ≡ solution (k .order) sys → c .first ≡ false → triedOf (reportOf (convergenceOf vec vec (k .job .nodes) (k .job .options))) sys vec mem ≡ whole
+    pub repeated : linearAt k c acc base mem ≡ drivenOf 0 sys → vec ≡ solution (k .order) sys → c .first ≡ false → triedOf (reportOf (convergenceOf vec vec (k .job .nodes) (k .job .options))) sys vec mem ≡ whole
     unfolding compared attemptOf stampOf
     repeated e v f = rw (e, unbiased (k .order) vec sys mem, f, ← v)
 
@@ -103,10 +126,20 @@ module _ (k : Circuit) (c : Counters) (acc base sys vec mem : List Float) where
     unfolding finished
     without-diodes m = rw (unbiased (length vec) vec m mem)
 
+  -- the diodes leave the inductors' currents
+  currents-left : (r : Report) (m s v y : List Float) → triedOf r s v y ≡ finished (k .job) (c .first) (k .sheet) m sys vec mem → Currents (k .sheet) mem y
+  unfolding finished
+  currents-left r m s v y e i h =
+      let o = k .job .options in
+      let t = diodesOf o (k .sheet) (length vec) vec m mem in
+      let q : y ≡ t .memory = ap (λ (t : Tried). t .memory) e ∙ solved-memory (length vec) t sys vec in
+      sym (ap (λ (y : List Float). getD y i nan) q ∙ diodes-leave o (k .sheet) (length vec) vec i (λ z. inductor-no-diode (sym h ∙ z)) m mem)
+
   -- what a pass from the matrix m on leaves for the next
-  pub leaves : (places : List ℕ) (r : Report) (m held s v y : List Float) → Holder (k .sheet) places (length base) (length held) → length vec ≡ k .order → drivenOf 0 m ≡ linearAt k c acc base
-      → (bare (length held) ≡ false → held ≡ m) → triedOf r s v y ≡ finished (k .job) (c .first) (k .sheet) m sys vec mem → Holds k c acc base held s v
-  leaves places r m held s v y holder l d p e =
+  pub leaves : (places : List ℕ) (r : Report) (m held s v y : List Float) → Holder (k .sheet) places (length base) (length held) → length vec ≡ k .order → drivenOf 0 m ≡ linearAt k c acc base mem
+      → (bare (length held) ≡ false → held ≡ m) → triedOf r s v y ≡ finished (k .job) (c .first) (k .sheet) m sys vec mem → Holds k c acc base held s v y
+  leaves places r m held s v y holder l d₀ p e =
+      let d : drivenOf 0 m ≡ linearAt k c acc base y = d₀ ∙ linear-same _ acc (k .sheet) mem y (currents-left r m s v y e) (k .points) base base in
       record {
         whole = λ h.
             let q = e ∙ without-diodes places (length held) holder h m in
@@ -127,8 +160,8 @@ module _ (j : Job) (first : Bool) (sheet : List ℕ) (m sys vec mem : List Float
 
 -- ---- a pass, from what was tried and what aftermath it
 
-module _ (k : Circuit) (j : Job) (c w : Counters) (acc base sys vec mem rows : List Float) (r : Report) (s v y z : List Float) (e₀ : triedOf r s v y ≡ tried (attemptOf k) j c acc (buffersOf base sys vec mem [])) where
-  e : triedOf r s v y ≡ tried (attemptOf k) j c acc (buffersOf base sys vec mem rows)
+module _ (k : Circuit) (j : Job) (c w : Counters) (acc base sys vec mem rows : List Float) (r : Report) (s v y z : List Float) (e₀ : triedOf r s v y ≡ took (attemptOf k) j c acc (buffersOf base sys vec mem [])) where
+  e : triedOf r s v y ≡ took (attemptOf k) j c acc (buffersOf base sys vec mem rows)
   e = e₀ ∙ any-rows k j c acc base sys vec mem [] rows
 
   pub dc-joins : writtenOf w z ≡ dcDone j r c v rows → stateOf w acc (buffersOf base s v y z) ≡ dcPass (attemptOf k) j (stateOf c acc (buffersOf base sys vec mem rows))

@@ -13,6 +13,7 @@ use Rattle.sheet.specs.Check.{recordsOf}
 use Rattle.groups.specs.Sources.{Driven, drivenOf}
 use Rattle.groups.specs.Diodes.{diodesOf}
 use Rattle.groups.specs.Listed.{Listed}
+use Rattle.groups.specs.Storage.{takenOf}
 use Rattle.groups.specs.Stamping.{linearOf}
 use Rattle.solve.specs.Solve.{solution}
 use Rattle.steps.specs.declared.Counters.{Counters}
@@ -21,12 +22,12 @@ use Rattle.steps.specs.declared.Report.{Report}
 use Rattle.steps.specs.declared.Report.the-variants.{Diode, Sine}
 use Rattle.steps.specs.Control.{reportOf}
 use Rattle.machine.specs.State.{Tried, triedOf}
-use Rattle.machine.specs.Machine.{before, reported}
+use Rattle.machine.specs.Machine.{before, reported, takes}
 use Rattle.passes.specs.Attempt.{Circuit, passOf, solvedFrom}
 
--- what a pass stamps before its diodes, at the counters c, the accepted vector a and the base b
-abbrev pub linearAt : Circuit → Counters → List Float → List Float → Driven
-linearAt k c a b = linearOf (passOf (k .job) (k .order) c) (k .sheet) (k .points) b a b
+-- what a pass stamps before its diodes, at the counters c, the accepted vector a, the base b and the memory y
+abbrev pub linearAt : Circuit → Counters → List Float → List Float → List Float → Driven
+linearAt k c a b y = linearOf (passOf (k .job) (k .order) c) (k .sheet) (k .points) b a y b
 
 -- the report on a pass that was not stamped whole
 unfoldable pub failureOf : ℕ → Report
@@ -53,12 +54,16 @@ pub record Holder (sheet places : List ℕ) (base held : ℕ) : Type 0 where
   pub long : bare held ≡ false → held ≡ base
 
 -- what the last pass left: in a circuit without diodes the whole of it, else the part before the diodes
-pub record Holds (k : Circuit) (c : Counters) (a base held system vector : List Float) : Type 0 where
-  pub whole : bare (length held) ≡ true → (linearAt k c a base ≡ drivenOf 0 system) × (vector ≡ solution (k .order) system)
-  pub part : bare (length held) ≡ false → linearAt k c a base ≡ drivenOf 0 held
+pub record Holds (k : Circuit) (c : Counters) (a base held system vector memory : List Float) : Type 0 where
+  pub whole : bare (length held) ≡ true → (linearAt k c a base memory ≡ drivenOf 0 system) × (vector ≡ solution (k .order) system)
+  pub part : bare (length held) ≡ false → linearAt k c a base memory ≡ drivenOf 0 held
 
 -- a pass can use it, where the one before was stamped alike (`again`)
-pub record Usable (k : Circuit) (places : List ℕ) (again : Bool) (c : Counters) (a base held system vector : List Float) : Type 0 where
+pub record Usable (k : Circuit) (places : List ℕ) (again : Bool) (c : Counters) (a base held system vector memory : List Float) : Type 0 where
   pub holder : Holder (k .sheet) places (length base) (length held)
   pub later : again ≡ true → c .first ≡ false
-  pub holds : again ≡ true → Holds k c a base held system vector
+  pub holds : again ≡ true → Holds k c a base held system vector memory
+
+-- the memory after a pass of the counters c with the report r, from the vector v and the memory y that it left: where the vector is taken, inductors have taken their currents
+unfoldable pub memoryAfter : Job → Report → Counters → List ℕ → List Float → List Float → List Float
+memoryAfter j r c sheet v y = cond (takes j c r) (takenOf (passOf j (length v) c) sheet v y) y

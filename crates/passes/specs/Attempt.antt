@@ -7,6 +7,7 @@ use lib.Ieee.{Float}
 use Rattle.options.specs.Switch.{on}
 use Rattle.groups.specs.declared.Pass.{Pass}
 use Rattle.groups.specs.Diodes.{Stamped}
+use Rattle.groups.specs.Storage.{takenOf}
 use Rattle.groups.specs.Stamping.{stampOf}
 use Rattle.solve.specs.Solve.{solution}
 use Rattle.steps.specs.declared.Counters.{Counters}
@@ -39,12 +40,19 @@ solvedFrom n t system vector =
     (record { fault = 0; system = t .matrix; vector = solution n (t .matrix); memory = t .memory })
     (record { fault = t .code; system = system; vector = vector; memory = t .memory })
 
--- which diode is behind in what a pass leaves: the vector just solved, and the voltages at which its diodes were linearized
-abbrev pub attemptedOf : Circuit → Solved → Attempted
-attemptedOf k a =
-    record { fault = a .fault; system = a .system; vector = a .vector; memory = a .memory; behind = behindNumber (k .job .options) (k .sheet) (a .vector) (a .memory) }
+-- which diode is behind in what a pass leaves: the vector just solved, and the voltages at which its diodes were linearized. And the memory if that vector is taken: inductors go by the pass as it began, with its own step.
+abbrev pub attemptedOf : Circuit → Counters → Solved → Attempted
+attemptedOf k c a =
+    record {
+      fault = a .fault;
+      system = a .system;
+      vector = a .vector;
+      memory = a .memory;
+      behind = behindNumber (k .job .options) (k .sheet) (a .vector) (a .memory);
+      taken = takenOf (passOf (k .job) (k .order) c) (k .sheet) (a .vector) (a .memory);
+    }
 
 -- each pass is stamped over the base, from the accepted vector and its own previous one
 unfoldable pub attemptOf : Circuit → Attempt
 attemptOf k c accepted x =
-    attemptedOf k (solvedFrom (k .order) (stampOf (k .job .options) (passOf (k .job) (k .order) c) (k .sheet) (k .points) (x .base) accepted (x .vector) (x .memory) (x .base)) (x .system) (x .vector))
+    attemptedOf k c (solvedFrom (k .order) (stampOf (k .job .options) (passOf (k .job) (k .order) c) (k .sheet) (k .points) (x .base) accepted (x .vector) (x .memory) (x .base)) (x .system) (x .vector))

@@ -53,7 +53,7 @@ pub fn attempt(
 ) -> Report
     requires sized { ⌜ Sized (length (now vector)) (length (now accepted)) (length (now base)) (length (now elimination)) (length (now system)) ⌝ }
     requires usable { ⌜
-        Usable (circuitOf j (length (now vector)) (now sheet) (now points)) (now places) again c (now accepted) (now base) (now held) (now system) (now vector)
+        Usable (circuitOf j (length (now vector)) (now sheet) (now points)) (now places) again c (now accepted) (now base) (now held) (now system) (now vector) (now memory)
         ⌝ }
     ensures all { λ r. ⌜
         triedOf r (now (system .exit)) (now (vector .exit)) (now (memory .exit))
@@ -62,7 +62,7 @@ pub fn attempt(
         ⌝ }
     ensures left { λ r. ⌜
         (solved r ≡ true
-        → Holds (circuitOf j (length (now (vector .entry))) (now (sheet .entry)) (now (points .entry))) c (now (accepted .entry)) (now (base .entry)) (now (held .exit)) (now (system .exit)) (now (vector .exit)))
+        → Holds (circuitOf j (length (now (vector .entry))) (now (sheet .entry)) (now (points .entry))) c (now (accepted .entry)) (now (base .entry)) (now (held .exit)) (now (system .exit)) (now (vector .exit)) (now (memory .exit)))
         ⌝ }
 {
     let r = solve_pass(
@@ -121,7 +121,7 @@ fn solve_pass(
 ) -> Report
     requires sized { ⌜ Sized (length (now vector)) (length (now accepted)) (length (now base)) (length (now elimination)) (length (now system)) ⌝ }
     requires usable { ⌜
-        Usable (circuitOf j (length (now vector)) (now sheet) (now points)) (now places) again c (now accepted) (now base) (now held) (now system) (now vector)
+        Usable (circuitOf j (length (now vector)) (now sheet) (now points)) (now places) again c (now accepted) (now base) (now held) (now system) (now vector) (now memory)
         ⌝ }
     ensures all { λ r. ⌜
         triedOf r (now (system .exit)) (now (vector .exit)) (now (memory .exit))
@@ -130,14 +130,24 @@ fn solve_pass(
         ⌝ }
     ensures left { λ r. ⌜
         (solved r ≡ true
-        → Holds (circuitOf j (length (now (vector .entry))) (now (sheet .entry)) (now (points .entry))) c (now (accepted .entry)) (now (base .entry)) (now (held .exit)) (now (system .exit)) (now (vector .exit)))
+        → Holds (circuitOf j (length (now (vector .entry))) (now (sheet .entry)) (now (points .entry))) c (now (accepted .entry)) (now (base .entry)) (now (held .exit)) (now (system .exit)) (now (vector .exit)) (now (memory .exit)))
         ⌝ }
 {
     if (held.len() == 0) & again {
         return compare(j, vector);
     }
     let p = pass_of(j, vector.len(), c);
-    let k = stamp_first(p, again, sheet, points, base, accepted, held, elimination);
+    let k = stamp_first(
+        p,
+        again,
+        sheet,
+        points,
+        base,
+        accepted,
+        memory,
+        held,
+        elimination,
+    );
     if k != 0 {
         return failure(k);
     }
@@ -154,7 +164,7 @@ fn solve_pass(
 }
 
 // The numbers of the pass to come: what of a run's job and counters its stamping reads.
-fn pass_of(j: Job, order: usize, c: Counters) -> Pass
+pub fn pass_of(j: Job, order: usize, c: Counters) -> Pass
     ensures { λ r. ⌜ r ≡ passOf j order c ⌝ }
 {
     Pass {
@@ -192,17 +202,18 @@ fn stamp_first(
     points: &[u8],
     base: &[f64],
     accepted: &[f64],
+    memory: &[f64],
     held: &mut [f64],
     elimination: &mut [f64],
 ) -> u8
     requires { ⌜ length (now elimination) ≡ length (now base) ⌝ }
     requires { ⌜
         (again ≡ true
-        → (length (now held) ≡ length (now base)) × (linearOf p (now sheet) (now points) (now base) (now accepted) (now base) ≡ drivenOf 0 (now held)))
+        → (length (now held) ≡ length (now base)) × (linearOf p (now sheet) (now points) (now base) (now accepted) (now memory) (now base) ≡ drivenOf 0 (now held)))
         ⌝ }
     ensures stamps { λ r. ⌜
         drivenOf r (now (elimination .exit))
-        ≡ linearOf p (now (sheet .entry)) (now (points .entry)) (now (base .entry)) (now (accepted .entry)) (now (base .entry))
+        ≡ linearOf p (now (sheet .entry)) (now (points .entry)) (now (base .entry)) (now (accepted .entry)) (now (memory .entry)) (now (base .entry))
         ⌝ }
     ensures holds { λ r. ⌜ (length (now (held .entry)) ≡ length (now (base .entry)) → r ≡ 0 → now (held .exit) ≡ now (elimination .exit)) ⌝ }
 {
@@ -210,7 +221,7 @@ fn stamp_first(
         copy(held, elimination);
         return 0;
     }
-    let k = stamp_linear(p, sheet, points, base, accepted, elimination);
+    let k = stamp_linear(p, sheet, points, base, accepted, memory, elimination);
     copy(elimination, held);
     k
 }

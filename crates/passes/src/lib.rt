@@ -1,23 +1,29 @@
 // The run of a budget over lent buffers: the machine of passes at the real stamping and solving. It reads from the whole to its parts: a run lists its diodes, takes a matrix to
-// hold what is stamped before them, and makes pass after pass; a pass is an attempt (attempt.rt) and what follows it (follow).
+// hold what is stamped before them, and makes pass after pass; a pass is an attempt (attempt.rt), the currents that inductors take (take) and what follows it (follow).
 mod attempt;
 
 ghost use mathlib.Core.Path.{_≡_};
 ghost use Rattle.numbers.specs.Limits.{mostRecords};
 ghost use lib.ListN.{length};
+ghost use Rattle.sheet.specs.Check.{recordsOf};
 ghost use Rattle.groups.specs.Listed.{Listed};
+ghost use Rattle.groups.specs.Storage.{inductorAmong};
 ghost use Rattle.machine.specs.State.{buffersOf, stateOf, writtenOf};
 ghost use Rattle.machine.specs.Machine.{runFor};
 ghost use Rattle.passes.specs.Sized.{Sized, fits as fitsOf};
 ghost use Rattle.passes.specs.Attempt.{circuitOf, attemptOf};
-ghost use Rattle.passes.specs.Again.{alike as alikeOf, Holder};
+ghost use Rattle.passes.specs.Again.{alike as alikeOf, Holder, memoryAfter};
 ghost use Rattle.passes.specs.Done.{dcDone, stepDone, aftermathOf, aftermath};
 ghost use Rattle.passes.specs.Run.{runOn, Scratch};
 use attempt::attempt;
+use attempt::pass_of;
 use groups::diodes::list_diodes;
+use groups::storage::has_inductors;
+use groups::storage::take_currents;
 use machine::accept;
 use machine::accepts;
 use machine::landed;
+use machine::takes;
 use machine::write;
 use numbers::limit::RECORDS;
 use numbers::limit::UNKNOWNS;
@@ -226,7 +232,7 @@ fn run_large(
     )
 }
 
-// Pass after pass, until the run has ended or its budget is spent; a pass is an attempt and what follows it. `held` is as long as the base, or empty in a circuit without diodes, where the system itself is all that is held.
+// Pass after pass, until the run has ended or its budget is spent; a pass is an attempt, the currents taken, and what follows it. `held` is as long as the base, or empty in a circuit without diodes, where the system itself is all that is held.
 fn run_passes(
     j: Job,
     c: Counters,
@@ -250,6 +256,7 @@ fn run_passes(
         (stateOf c (now (accepted .entry)) (buffersOf (now (base .entry)) (now (system .entry)) (now (vector .entry)) (now (memory .entry)) (now (rows .entry))))
         ⌝ }
 {
+    let inductors = has_inductors(sheet);
     let mut s = c;
     let mut left = j.options.budget;
     let mut known = false;
@@ -272,6 +279,7 @@ fn run_passes(
             vector,
             memory,
         );
+        take(inductors, j, r, s, sheet, vector, memory);
         s = follow(j, r, s, accepted, vector, rows);
         known = true;
         left -= 1;
@@ -287,6 +295,29 @@ fn alike(c: Counters) -> bool
         return false;
     }
     c.count != 0
+}
+
+// Where the vector of a pass is taken, its inductors take their currents. In a circuit without any, nothing is asked or walked.
+fn take(
+    inductors: bool,
+    j: Job,
+    report: Report,
+    c: Counters,
+    sheet: &[u8],
+    vector: &[f64],
+    memory: &mut [f64],
+)
+    requires { ⌜ inductors ≡ inductorAmong (now sheet) (recordsOf (now sheet)) ⌝ }
+    ensures { λ _. ⌜
+        now (memory .exit) ≡ memoryAfter j report c (now (sheet .entry)) (now (vector .entry)) (now (memory .entry))
+        ⌝ }
+{
+    if !inductors {
+        return;
+    }
+    if takes(j, c, report) {
+        take_currents(pass_of(j, vector.len(), c), sheet, vector, memory);
+    }
 }
 
 // What follows the attempt of a pass: in DC, or in the transient.

@@ -9,7 +9,7 @@ use Rattle.behind.proofs.diode_behind.Statement.{statement}
 use Rattle.behind.proofs.diode_behind.Tie as tie
 
 returns : tie.Need-returns
-returns c = sym (quiet-behind _ _ _ _ _ (other-kind 4 4 (0 ∷ 1 ∷ 2 ∷ 4 ∷ 5 ∷ 6 ∷ 7 ∷ 8 ∷ 9 ∷ []) _ (c .match .keys2) refl))
+returns c = sym (quiet-behind _ _ _ _ _ (other-kind 4 4 (0 ∷ 1 ∷ 2 ∷ 4 ∷ 5 ∷ 6 ∷ 7 ∷ 8 ∷ 9 ∷ 10 ∷ []) _ (c .match .keys2) refl))
 
 returns-2 : tie.Need-returns-2
 unfolding diodeBehind

@@ -17,14 +17,14 @@ use Rattle.passes.specs.laws.Sized.{resized}
 use Rattle.passes.specs.Attempt.{Circuit, circuitOf, attemptOf}
 use Rattle.passes.specs.Again.{alike, Holder, Holds, Usable}
 use Rattle.passes.proofs.Again.{later, next-pass}
-use Rattle.passes.proofs.Joins.{pass-joins}
+use Rattle.passes.proofs.Joins.{takes-over, pass-joins}
 use borrow.Author.Needs.{needs}
 use Rattle.passes.proofs.run_passes.Statement.{statement}
 use Rattle.passes.proofs.run_passes.Tie as tie
 
 -- the next pass of a live run finds what the last one left
-abbrev Ready : Circuit → Bool → Counters → List Float → List Float → List Float → List Float → List Float → Type 0
-Ready k known c a base held s v = known ≡ true → going c ≡ true → alike c ≡ true → Holds k c a base held s v
+abbrev Ready : Circuit → Bool → Counters → List Float → List Float → List Float → List Float → List Float → List Float → Type 0
+Ready k known c a base held s v y = known ≡ true → going c ≡ true → alike c ≡ true → Holds k c a base held s v y
 
 -- the buffers are as long as they were, and what is left to run from here is the whole
 record Inv (k : Circuit) (t₀ : State) (h₀ h e₀ e : List Float) (t : State) (left : ℕ) (known : Bool) : Type 0 where
@@ -35,7 +35,7 @@ record Inv (k : Circuit) (t₀ : State) (h₀ h e₀ e : List Float) (t : State)
   lv : length (t .buffers .vector) ≡ length (t₀ .buffers .vector)
   lm : length (t .buffers .memory) ≡ length (t₀ .buffers .memory)
   lr : length (t .buffers .rows) ≡ length (t₀ .buffers .rows)
-  ready : Ready k known (t .counters) (t .accepted) (t₀ .buffers .base) h (t .buffers .system) (t .buffers .vector)
+  ready : Ready k known (t .counters) (t .accepted) (t₀ .buffers .base) h (t .buffers .system) (t .buffers .vector) (t .buffers .memory)
   same : runFor (attemptOf k) (k .job) left t ≡ runFor (attemptOf k) (k .job) (k .job .options .budget) t₀
 
 -- a pass takes one from the budget
@@ -46,13 +46,13 @@ taken j n n₀ sheet points t s r left e p h q =
     ap (runFor f j (left - 1)) (subst (λ (n : ℕ). t ≡ pass (attemptOf (circuitOf j n sheet points)) j s) e p) ∙ (sym (run-step f j left s h) ∙ q)
 
 -- the order is written as the vector's length
-resize : (j : Job) (n n₀ : ℕ) (sheet points : List ℕ) (c : Counters) (a b held s v : List Float) → n ≡ n₀ → Holds (circuitOf j n sheet points) c a b held s v → Holds (circuitOf j n₀ sheet points) c a b held s v
-resize j n n₀ sheet points c a b held s v e h = rw (← e) h
+resize : (j : Job) (n n₀ : ℕ) (sheet points : List ℕ) (c : Counters) (a b held s v y : List Float) → n ≡ n₀ → Holds (circuitOf j n sheet points) c a b held s v y → Holds (circuitOf j n₀ sheet points) c a b held s v y
+resize j n n₀ sheet points c a b held s v y e h = rw (← e) h
 
 -- what is ready at a live pass is usable there
-usable : (j : Job) (n n₀ h₀ : ℕ) (sheet places points : List ℕ) (known a g : Bool) (c : Counters) (acc base held s v : List Float) → n ≡ n₀ → length held ≡ h₀ → Holder sheet places (length base) h₀
-    → Ready (circuitOf j n₀ sheet points) known c acc base held s v → a ≡ alike c → g ≡ going c → not g ≡ false → Usable (circuitOf j n sheet points) places (known && a) c acc base held s v
-usable j n n₀ h₀ sheet places points known a g c acc base held s v e lh holder ready ea eg live =
+usable : (j : Job) (n n₀ h₀ : ℕ) (sheet places points : List ℕ) (known a g : Bool) (c : Counters) (acc base held s v y : List Float) → n ≡ n₀ → length held ≡ h₀ → Holder sheet places (length base) h₀
+    → Ready (circuitOf j n₀ sheet points) known c acc base held s v y → a ≡ alike c → g ≡ going c → not g ≡ false → Usable (circuitOf j n sheet points) places (known && a) c acc base held s v y
+usable j n n₀ h₀ sheet places points known a g c acc base held s v y e lh holder ready ea eg live =
     rw e
     record {
       holder = rw lh holder;
@@ -61,11 +61,11 @@ usable j n n₀ h₀ sheet places points known a g c acc base held s v e lh hold
     }
 
 abbrev Inv-loop : tie.InvT-loop
-Inv-loop j sheet places points base accepted₀ held₀ elimination₀ system₀ vector₀ memory₀ rows₀ s₀ left₀ known₀ accepted held elimination system vector memory rows s left known =
+Inv-loop j sheet places points base accepted₀ held₀ elimination₀ system₀ vector₀ memory₀ rows₀ inductors s₀ left₀ known₀ accepted held elimination system vector memory rows s left known =
     Inv (circuitOf j (length vector₀) sheet points) (stateOf s₀ accepted₀ (buffersOf base system₀ vector₀ memory₀ rows₀)) held₀ held elimination₀ elimination (stateOf s accepted (buffersOf base system vector memory rows)) left known
 
 abbrev μ-loop : tie.MeasureT-loop
-μ-loop j sheet places points base accepted₀ held₀ elimination₀ system₀ vector₀ memory₀ rows₀ s₀ left₀ known₀ accepted held elimination system vector memory rows s left known = left
+μ-loop j sheet places points base accepted₀ held₀ elimination₀ system₀ vector₀ memory₀ rows₀ inductors s₀ left₀ known₀ accepted held elimination system vector memory rows s left known = left
 
 loop-holds : tie.Need-loop-holds Inv-loop μ-loop
 loop-holds c = record { la = refl; lh = refl; le = refl; ls = refl; lv = refl; lm = refl; lr = refl; ready = λ k g a. absurd (false≢true k); same = refl }
@@ -76,37 +76,44 @@ returns c = sym (run-stopped _ _ _ _ (sym (c .before .going .ensures) ∙ not-tr
 attempt-requires : tie.Need-attempt-requires Inv-loop μ-loop
 attempt-requires c κs =
     let i = c .before .before .before .before .before .before .before .before .before .before .loop .inv in
-    let z = c .before .before .before .before .before .before .before .before .before .before .before .before .before .before .before .before .before .before .before .before .before .before .pre in
-    (resized _ _ _ _ _ _ _ _ _ (z .0) (i .lv) (i .la) (i .le) (i .ls), usable _ _ _ _ _ _ _ _ _ _ _ _ _ _ _ _ (i .lv) (i .lh) (z .1) (i .ready) (c .before .before .before .before .before .before .alike .ensures) (c .before .before .before .before .before .before .before .before .going .ensures) (c .before .before .before .before .before .before .before .if1 .left))
+    let z = c .before .before .before .before .before .before .before .before .before .before .before .before .before .before .before .before .before .before .before .before .before .before .before .pre in
+    (resized _ _ _ _ _ _ _ _ _ (z .0) (i .lv) (i .la) (i .le) (i .ls), usable _ _ _ _ _ _ _ _ _ _ _ _ _ _ _ _ _ (i .lv) (i .lh) (z .1) (i .ready) (c .before .before .before .before .before .before .alike .ensures) (c .before .before .before .before .before .before .before .before .going .ensures) (c .before .before .before .before .before .before .before .if1 .left))
+
+take-requires : tie.Need-take-requires Inv-loop μ-loop
+take-requires c κs = c .before .before .before .before .before .before .before .before .before .before .before .before .before .before .before .before .before .before .before .before .before .before .before .before .has-inductors .ensures
 
 follow-requires : tie.Need-follow-requires Inv-loop μ-loop
 follow-requires c κs =
-    let i = c .before .before .before .before .before .before .before .before .before .before .before .before .before .before .before .before .before .before .before .before .before .before .before .before .loop .inv in
-    c .before .before .before .before .before .before .before .before .before .before .before .before .before .attempt .kept .1 .1 .1 .1 .1 .1 .1 .1 .1 .1 .1 .0 ∙ (i .lv ∙ (sym (c .before .before .before .before .before .before .before .before .before .before .before .before .before .before .before .before .before .before .before .before .before .before .before .before .before .before .before .before .before .before .before .before .before .before .before .before .pre .0 .vectors) ∙ sym (i .la)))
+    let i = c .before .before .before .before .before .before .before .before .before .before .before .before .before .before .before .before .before .before .before .before .before .before .before .before .before .before .before .before .before .loop .inv in
+    let z = c .before .before .before .before .before .before .before .before .before .before .before .before .before .before .before .before .before .before .before .before .before .before .before .before .before .before .before .before .before .before .before .before .before .before .before .before .before .before .before .before .before .before .pre in
+    c .before .before .before .before .before .before .before .before .before .before .before .before .before .before .before .before .before .before .attempt .kept .1 .1 .1 .1 .1 .1 .1 .1 .1 .1 .1 .0 ∙ (i .lv ∙ (sym (z .0 .vectors) ∙ sym (i .la)))
 
 sub-left : tie.Need-sub-left Inv-loop μ-loop
-sub-left c = omega (arith, c .before .before .before .before .before .before .before .before .before .before .before .before .before .before .before .before .before .before .before .before .before .before .before .before .before .before .before .before .loop-test .taken)
+sub-left c = omega (arith, c .before .before .before .before .before .before .before .before .before .before .before .before .before .before .before .before .before .before .before .before .before .before .before .before .before .before .before .before .before .before .before .before .before .loop-test .taken)
 
 loop-less : tie.Need-loop-less Inv-loop μ-loop
-loop-less c = omega (arith, c .before .before .before .before .before .before .before .before .before .before .before .before .before .before .before .before .before .before .before .before .before .before .before .before .before .before .before .before .loop-test .taken)
+loop-less c = omega (arith, c .before .before .before .before .before .before .before .before .before .before .before .before .before .before .before .before .before .before .before .before .before .before .before .before .before .before .before .before .before .before .before .before .before .loop-test .taken)
 
 loop-again : tie.Need-loop-again Inv-loop μ-loop
 loop-again c =
-    let l = c .before .before .before .before .before .before .before .before .before .before .before .before .before .before .before .before .before .before .before .before .before .before .before .before .before .before .before .before .before .loop in
+    let l = c .before .before .before .before .before .before .before .before .before .before .before .before .before .before .before .before .before .before .before .before .before .before .before .before .before .before .before .before .before .before .before .before .before .before .loop in
     let i = l .inv in
-    let t = c .before .before .before .before .before .before .before .before .before .before .before .before .before .before .before .before .before .before .attempt in
+    let t = c .before .before .before .before .before .before .before .before .before .before .before .before .before .before .before .before .before .before .before .before .before .before .before .attempt in
+    let y = c .before .before .before .before .before .before .before .before .before .before .take in
     let x = c .before .before .before .before .follow in
-    let live = sym (c .before .before .before .before .before .before .before .before .before .before .before .before .before .before .before .before .before .before .before .before .before .before .before .before .before .before .before .going .ensures) ∙ not-false _ (c .before .before .before .before .before .before .before .before .before .before .before .before .before .before .before .before .before .before .before .before .before .before .before .before .before .before .if1 .left) in
+    let live = sym (c .before .before .before .before .before .before .before .before .before .before .before .before .before .before .before .before .before .before .before .before .before .before .before .before .before .before .before .before .before .before .before .before .going .ensures) ∙ not-false _ (c .before .before .before .before .before .before .before .before .before .before .before .before .before .before .before .before .before .before .before .before .before .before .before .before .before .before .before .before .before .before .before .if1 .left) in
+    let lv = t .kept .1 .1 .1 .1 .1 .1 .1 .1 .1 .1 .1 .0 in
+    let took = takes-over _ _ _ _ _ _ _ _ _ _ _ _ (sym lv) (t .ensures .0) (y .ensures) in
     record {
       la = x .kept .1 .1 .1 .0 ∙ i .la;
       lh = t .kept .1 .1 .1 .1 .1 .1 .1 .1 .0 ∙ i .lh;
       le = t .kept .1 .1 .1 .1 .1 .1 .1 .1 .1 .0 ∙ i .le;
       ls = t .kept .1 .1 .1 .1 .1 .1 .1 .1 .1 .1 .0 ∙ i .ls;
-      lv = t .kept .1 .1 .1 .1 .1 .1 .1 .1 .1 .1 .1 .0 ∙ i .lv;
-      lm = t .kept .1 .1 .1 .1 .1 .1 .1 .1 .1 .1 .1 .1 .0 ∙ i .lm;
+      lv = lv ∙ i .lv;
+      lm = y .kept .1 .1 .1 .1 .1 .1 .0 ∙ (t .kept .1 .1 .1 .1 .1 .1 .1 .1 .1 .1 .1 .1 .0 ∙ i .lm);
       lr = x .kept .1 .1 .1 .1 .1 .0 ∙ i .lr;
-      ready = λ k g b. resize _ _ _ _ _ _ _ _ _ _ _ (i .lv) (next-pass _ _ _ _ _ _ _ _ _ _ _ _ _ (t .ensures .1) _ (x .ensures) g b);
-      same = taken _ _ _ _ _ _ _ _ (l .left) (i .lv) (pass-joins _ _ _ _ _ _ _ _ _ _ _ _ _ _ _ (t .ensures .0) _ live (x .ensures)) (c .before .before .before .before .before .before .before .before .before .before .before .before .before .before .before .before .before .before .before .before .before .before .before .before .before .before .before .before .loop-test .taken) (i .same);
+      ready = λ k g b. resize _ _ _ _ _ _ _ _ _ _ _ _ (i .lv) (next-pass _ _ _ _ _ _ _ _ _ _ _ _ _ _ _ (t .ensures .1) (y .ensures) _ (x .ensures) g b);
+      same = taken _ _ _ _ _ _ _ _ (l .left) (i .lv) (pass-joins _ _ _ _ _ _ _ _ _ _ _ _ _ _ _ took _ live (x .ensures)) (c .before .before .before .before .before .before .before .before .before .before .before .before .before .before .before .before .before .before .before .before .before .before .before .before .before .before .before .before .before .before .before .before .before .loop-test .taken) (i .same);
     }
 
 returns-2 : tie.Need-returns-2 Inv-loop μ-loop
@@ -121,6 +128,7 @@ run-passes-spec =
     (tie.spec
     Inv-loop
     μ-loop
+    (λ c κs. search needs)
     loop-holds
     (λ c κs. search needs)
     (λ c. c .before .before .before .loop .inv .la)
@@ -133,6 +141,7 @@ run-passes-spec =
     returns
     (λ c κs. search needs)
     attempt-requires
+    take-requires
     follow-requires
     sub-left
     loop-less

@@ -8,7 +8,7 @@ use lib.Ieee.{Float}
 use Rattle.loops.specs.laws.Loop.{turns-ext}
 use Rattle.options.specs.declared.Options.{Options}
 use Rattle.sheet.specs.declared.Element.{Element}
-use Rattle.sheet.specs.declared.Element.the-variants.{R, I, «V», D, Isin, Vsin, Vpwl, C, Vcvs, Vccs}
+use Rattle.sheet.specs.declared.Element.the-variants.{R, I, «V», D, Isin, Vsin, Vpwl, C, Vcvs, Vccs, L}
 use Rattle.sheet.specs.declared.Decoded.{Decoded}
 use Rattle.sheet.specs.declared.Decoded.the-variants.{Good, Refused}
 use Rattle.sheet.specs.Check.{recordsOf}
@@ -45,6 +45,7 @@ module _ (o : Options) (w v : ℕ) where
   biased-same n x i m y (C p q a) = refl
   biased-same n x i m y (Vcvs p q cp cq a s) = refl
   biased-same n x i m y (Vccs p q cp cq a) = refl
+  biased-same n x i m y (L p q a s) = refl
 
   decoded-same : {X : Type 0} (f g : Element → X) (x : X) → ((e : Element) → f e ≡ g e) → (d : Decoded) → onRecord f x d ≡ onRecord g x d
   decoded-same f g x h (Good e) = h e
@@ -63,7 +64,7 @@ module _ (o : Options) (w v : ℕ) where
   stamp-same : (p : Pass) (sheet points : List ℕ) (base x u y m : List Float) → stampOf here p sheet points base x u y m ≡ stampOf there p sheet points base x u y m
   unfolding stampOf
   stamp-same p sheet points base x u y m =
-      let l = linearOf p sheet points base x m in
+      let l = linearOf p sheet points base x y m in
       ap (λ (t : Stamped). cond (eqb (l .code) 0) t (stampedOf (l .code) (l .matrix) y)) (diodes-same sheet (p .order) u (l .matrix) y)
 
   -- ---- diodes as they are asked

@@ -10,7 +10,7 @@ use Rattle.files.proofs.volts.across_in.Tie as tie
 returns : tie.Need-returns
 returns c =
     let a = c .before .before .args in
-    sym (quiet-across (a .vector .now) (a .e) (other-kind 4 4 (0 ∷ 1 ∷ 2 ∷ 4 ∷ 5 ∷ 6 ∷ 7 ∷ 8 ∷ 9 ∷ []) (a .e) (c .match .keys2) refl))
+    sym (quiet-across (a .vector .now) (a .e) (other-kind 4 4 (0 ∷ 1 ∷ 2 ∷ 4 ∷ 5 ∷ 6 ∷ 7 ∷ 8 ∷ 9 ∷ 10 ∷ []) (a .e) (c .match .keys2) refl))
 
 returns-2 : tie.Need-returns-2
 returns-2 c = rw (c .before .before .before .before .e .given .1) (c .across .ensures)

@@ -44,33 +44,33 @@ returns c =
 
 stamp-first-requires : tie.Need-stamp-first-requires
 stamp-first-requires c κs =
-    let z = c .before .before .before .before .before .before .before .before .before .before .before .before .before .before .pre in (
+    let z = c .before .before .before .before .before .before .before .before .before .before .before .before .before .before .before .pre in (
       z .0 .works ∙ sym (z .0 .bases),
       λ a.
-          let d = alone _ _ (c .before .before .before .if1 .left) a in
-          (z .1 .holder .long d, rw (c .before .before .pass-of .ensures) (z .1 .holds a .part d)),
+          let d = alone _ _ (c .before .before .before .before .if1 .left) a in
+          (z .1 .holder .long d, rw (c .before .before .before .pass-of .ensures) (z .1 .holds a .part d)),
     )
 
 returns-2 : tie.Need-returns-2
 returns-2 c =
     let t = c .before .before .before .before .before .before .stamp-first in
-    (rw (c .failure .ensures) (unstamped _ _ _ _ _ _ _ _ _ (rw (c .before .before .before .before .before .before .before .before .before .pass-of .ensures) at (t .ensures .0)) (c .before .if2 .taken)), λ s. absurd (unsolved _ _ (c .failure .ensures) s))
+    (rw (c .failure .ensures) (unstamped _ _ _ _ _ _ _ _ _ (rw (c .before .before .before .before .before .before .before .before .before .before .pass-of .ensures) at (t .ensures .0)) (c .before .if2 .taken)), λ s. absurd (unsolved _ _ (c .failure .ensures) s))
 
 finish-requires : tie.Need-finish-requires
 finish-requires c κs =
-    let z = c .before .before .before .before .before .before .before .before .before .before .before .before .before .before .before .before .before .before .before .before .before .before .before .before .pre in
-    let l = c .before .before .before .before .before .before .before .before .before .stamp-first .kept .1 .1 .1 .1 .1 .1 .1 .0 ∙ z .0 .works in
+    let z = c .before .before .before .before .before .before .before .before .before .before .before .before .before .before .before .before .before .before .before .before .before .before .before .before .before .pre in
+    let l = c .before .before .before .before .before .before .before .before .before .stamp-first .kept .1 .1 .1 .1 .1 .1 .1 .1 .0 ∙ z .0 .works in
     ((record { some = z .0 .some; small = z .0 .small; cells = l }, z .0 .systems ∙ sym l), z .1 .holder .listed)
 
 returns-3 : tie.Need-returns-3
 returns-3 c =
-    let u = c .before .before .before .before .before .before .before .before .before .before .before .before .before .before .before .before .before .before .before .before .before .before .before .before .before .before .before .before .before .before .before .before .before .pre .1 in
+    let u = c .before .before .before .before .before .before .before .before .before .before .before .before .before .before .before .before .before .before .before .before .before .before .before .before .before .before .before .before .before .before .before .before .before .before .pre .1 in
     let t = c .before .before .before .before .before .before .before .before .before .before .before .before .before .before .before .before .before .before .stamp-first in
-    let a = c .before .before .before .before .before .before .before .before .before .before .before .before .before .before .before .before .before .before .before .before .before .before .before .before .before .before .before .before .before .before .before .before .before .args in
+    let a = c .before .before .before .before .before .before .before .before .before .before .before .before .before .before .before .before .before .before .before .before .before .before .before .before .before .before .before .before .before .before .before .before .before .before .args in
     let k = c .before .before .before .before .before .before .before .before .before .before .before .before .before .if2 .left in
-    let e = whole-code _ _ _ k (rw (c .before .before .before .before .before .before .before .before .before .before .before .before .before .before .before .before .before .before .before .before .before .pass-of .ensures) at (t .ensures .0)) in
+    let e = whole-code _ _ _ k (rw (c .before .before .before .before .before .before .before .before .before .before .before .before .before .before .before .before .before .before .before .before .before .before .pass-of .ensures) at (t .ensures .0)) in
     let f = c .before .before .before .before .before .before .before .before .finish .ensures in
-    let lh = t .kept .1 .1 .1 .1 .1 .1 .0 in
+    let lh = t .kept .1 .1 .1 .1 .1 .1 .1 .0 in
     (f ∙ stamped-first _ _ _ _ _ _ _ _ e refl, λ _. leaves _ _ _ _ (a .system .now) (a .vector .now) (a .memory .now) _ _ _ _ _ _ _ (held-as _ _ _ _ _ lh (u .holder)) refl e (λ h. t .ensures .1 (u .holder .long (ap bare (sym lh) ∙ h)) k) f)
 
 pub solve-pass-spec : {M : Type 1} → statement M
@@ -83,6 +83,7 @@ solve-pass-spec =
     (λ c κs. search needs)
     stamp-first-requires
     (λ c κs. search needs)
+    (λ c. search needs)
     (λ c. search needs)
     (λ c. search needs)
     returns-2

@@ -9,16 +9,16 @@ use Rattle.passes.proofs.attempt.stamp_first.Tie as tie
 
 returns : tie.Need-returns
 returns c =
-    let z = c .before .before .before .before .before .before .before .before .before .before .before .before .pre in
+    let z = c .before .before .before .before .before .before .before .before .before .before .before .before .before .pre in
     let k = z .1 (c .before .before .before .before .before .if1 .taken) in
     let e = c .before .before .copy .ensures ∙ copied-same _ _ (k .0 ∙ sym (z .0)) in
     (ap (drivenOf 0) e ∙ sym (k .1), λ _ _. sym e)
 
 returns-2 : tie.Need-returns-2
 returns-2 c =
-    let z = c .before .before .before .before .before .before .before .before .before .before .before .before .before .before .before .before .pre in
+    let z = c .before .before .before .before .before .before .before .before .before .before .before .before .before .before .before .before .before .pre in
     let t = c .before .before .before .before .before .before .before .stamp-linear in
-    (t .ensures ∙ linear-anew _ _ _ _ _ _ (sym (z .0)), λ h _. c .before .before .copy2 .ensures ∙ copied-same _ _ (t .kept .1 .1 .1 .1 .1 .0 ∙ (z .0 ∙ sym h)))
+    (t .ensures ∙ linear-anew _ _ _ _ _ _ _ (sym (z .0)), λ h _. c .before .before .copy2 .ensures ∙ copied-same _ _ (t .kept .1 .1 .1 .1 .1 .1 .0 ∙ (z .0 ∙ sym h)))
 
 pub stamp-first-spec : {M : Type 1} → statement M
 stamp-first-spec =
