@@ -12,20 +12,21 @@ use Rattle.sheet.specs.declared.Checked.{Checked}
 use Rattle.sheet.specs.declared.Checked.the-variants.{Clean, Faulty}
 use Rattle.sheet.specs.Record.{recordBytes, recordAt, decodeOf}
 use Rattle.sheet.specs.Range.{elementFault}
+use Rattle.sheet.specs.Sharing.{alone}
 
 -- the bytes of a point: time, level
 abbrev pub pointBytes : ℕ
 pointBytes = 16
 
--- what a record's answer does to the check: it ends at once, or goes on with the rest
-abbrev pub checkStep : Limits → ℕ → Decoded → Checked → Checked
-checkStep l i (Refused k) rest = Faulty k i
-checkStep l i (Good e) rest = cond (eqb (elementFault l e) 0) rest (Faulty (elementFault l e) i)
+-- what a record's answer, and whether its source number is its own, do to the check: it ends at once, or goes on with the rest
+abbrev pub checkStep : Limits → ℕ → (own : Bool) → Decoded → Checked → Checked
+checkStep l i own (Refused k) rest = Faulty k i
+checkStep l i own (Good e) rest = cond (eqb (elementFault l own e) 0) rest (Faulty (elementFault l own e) i)
 
 -- the n records from number i on: the first faulty record counts, and its lowest number
 unfoldable pub checkFrom : List ℕ → Limits → ℕ → ℕ → Checked
 checkFrom sheet l zero i = Clean
-checkFrom sheet l (suc n) i = checkStep l i (decodeOf (recordAt sheet i)) (checkFrom sheet l n (i + 1))
+checkFrom sheet l (suc n) i = checkStep l i (alone sheet i) (decodeOf (recordAt sheet i)) (checkFrom sheet l n (i + 1))
 
 -- the whole records of a sheet
 abbrev pub recordsOf : List ℕ → ℕ

@@ -78,5 +78,6 @@ lowest true false points = bySource
 lowest true true false = byPattern
 lowest true true true = 0
 
-unfoldable pub elementFault : Limits → Element → ℕ
-elementFault l e = lowest (nodesFit (l .nodes) e) (sourcesFit (l .sources) e) (pointsFit (l .points) e)
+-- so of an element, told whether its source number is its own (Sharing)
+unfoldable pub elementFault : Limits → (own : Bool) → Element → ℕ
+elementFault l own e = lowest (nodesFit (l .nodes) e) (own && sourcesFit (l .sources) e) (pointsFit (l .points) e)

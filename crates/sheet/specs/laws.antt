@@ -3,6 +3,8 @@ pub mod Record
 pub mod Row
 pub mod Kind
 pub mod Inside
+pub mod Sharing
 pub mod Clean
 pub mod Right
+pub mod Inductors
 pub mod Cases

@@ -3,6 +3,7 @@
 mod kinds;
 mod range;
 mod record;
+mod sharing;
 
 ghost use mathlib.Core.Path.{_≡_};
 ghost use lib.ListN.{length};
@@ -200,13 +201,15 @@ pub fn check_sheet(sheet: &[u8], l: Limits) -> Checked
     ensures { λ r. ⌜ r ≡ checkOf (now (sheet .entry)) l ⌝ }
 {
     let count = records(sheet);
+    let mut inductor = false; // whether one stands among the records up to i
     let mut i = 0;
     while i < count {
         let d = element_at(sheet, i);
         let Decoded::Good(e) = d else {
             return Checked::Faulty(refusal(d), i);
         };
-        let fault = range::element_fault(l, e);
+        inductor = inductor | (kind_at(sheet, i) == numbers::kind::INDUCTOR);
+        let fault = range::element_fault(l, sharing::alone_beside(inductor, sheet, i), e);
         if fault != 0 {
             return Checked::Faulty(fault, i);
         }

@@ -52,13 +52,13 @@ pub fn points_fit(points: usize, e: Element) -> bool
     end <= points
 }
 
-// The lowest refusal that the element meets, or 0.
-pub fn element_fault(l: Limits, e: Element) -> u8
-    ensures { λ r. ⌜ r ≡ elementFault l e ⌝ }
+// The lowest refusal that the element meets, or 0, told whether its source number is its own.
+pub fn element_fault(l: Limits, own: bool, e: Element) -> u8
+    ensures { λ r. ⌜ r ≡ elementFault l own e ⌝ }
 {
     lowest(
         nodes_fit(l.nodes, e),
-        sources_fit(l.sources, e),
+        own & sources_fit(l.sources, e),
         points_fit(l.points, e),
     )
 }

@@ -12,7 +12,7 @@ use Rattle.numbers.specs.Limits.{mostRecords, mostPoints}
 use Rattle.numbers.specs.Refusals.{byOrder, bySheet, byPoints, byCounts, byRoom}
 use Rattle.options.specs.declared.Options.{Options}
 use Rattle.sheet.specs.declared.Checked.the-variants.{Clean, Faulty}
-use Rattle.sheet.specs.Record.{recordBytes, recordAt}
+use Rattle.sheet.specs.Record.{recordBytes}
 use Rattle.sheet.specs.Check.{pointBytes, recordsOf, notWhole, badSheet, badPoints, checkOf}
 use Rattle.sheet.specs.laws.Clean.{First, faulty-at}
 use Rattle.sheet.specs.laws.Right.{Right, all-right, clean-right}
@@ -53,7 +53,7 @@ fine-none o z f =
 -- none of 1 to 10
 pub record NoneMet (o : Options) (z : Sizes) (sheet : List ℕ) : Type 0 where
   pub sizes : Fine o z
-  pub records : (i : ℕ) → i < recordsOf sheet → Right (limitsOf z) (recordAt sheet i)
+  pub records : (i : ℕ) → i < recordsOf sheet → Right sheet (limitsOf z) i
 
 pub none-met : (o : Options) (z : Sizes) (sheet : List ℕ) → NoneMet o z sheet → checkedOf o z sheet ≡ Clean
 unfolding checkedOf

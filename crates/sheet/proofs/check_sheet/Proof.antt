@@ -1,14 +1,19 @@
+-- `sheet::check_sheet` meets its contract: what is left of the check from record i on is the whole, and the flag says whether a record up to i must be held against others. Assumes nothing.
 use Prim.Native.Nat.{ℕ, _≤_, _<_, _+_, _-_, suc}
-use mathlib.Core.Path.{_≡_, sym, _∙_, ap}
+use mathlib.Core.Path.{_≡_, refl, sym, _∙_, ap}
 use mathlib.Core.List.{List}
-use mathlib.Core.Bool.{true, false}
+use mathlib.Core.Bool.{Bool, true, false, not, _||_}
+use mathlib.Mathlib.Data.Bool.Basic.{or-eq-false-eq-eq-false-and-eq-false as neither}
 use native.Mathlib.Omega.{arith}
 use native.Mathlib.Nat.{sub-zero}
 use borrow.Author.Tests.{eq-eqb, ne-eqb}
-use lib.Dec.{eqb}
-use Rattle.sheet.specs.Record.{recordAt, decodeOf}
+use lib.Dec.{eqb, ltb}
+use Rattle.numbers.specs.Kinds.{inductor}
+use Rattle.sheet.specs.Record.{recordAt, kindAt, decodeOf}
 use Rattle.sheet.specs.Range.{elementFault}
+use Rattle.sheet.specs.Sharing.{isInductor, alone}
 use Rattle.sheet.specs.Check.{checkFrom, checkOf, checkStep, recordRefusal}
+use Rattle.sheet.specs.laws.Sharing.{below, without-inductor}
 use Rattle.sheet.specs.declared.Element.{Element}
 use Rattle.sheet.specs.declared.Limits.{Limits}
 use Rattle.sheet.specs.declared.Decoded.{Decoded}
@@ -18,60 +23,81 @@ use borrow.Author.Needs.{needs}
 use Rattle.sheet.proofs.check_sheet.Statement.{statement}
 use Rattle.sheet.proofs.check_sheet.Tie as tie
 
+-- where the flag is down, none of the first i records is an inductor
+abbrev Flag : List ℕ → Bool → ℕ → Type 0
+Flag s b i = b ≡ false → (j : ℕ) → j < i → isInductor (recordAt s j) ≡ false
+
+module _ (s : List ℕ) (i : ℕ) {b : Bool} {k : ℕ} (e : k ≡ kindAt s i) (f : Flag s b i) where
+  raised : Flag s (b || eqb k inductor) (i + 1)
+  raised h j m =
+      let n = neither b (eqb k inductor) .0 h in
+      below (λ (j : ℕ). isInductor (recordAt s j) ≡ false) i j (ltb j i) refl (rw e at (n .1)) (f (n .0) j) (omega arith)
+
+  -- where it stays down, record i need not be held against them
+  held : {own : Bool} → own ≡ (not (b || eqb k inductor) || alone s i) → own ≡ alone s i
+  held q = q ∙ by (b || eqb k inductor) raised
+    where
+      by : (u : Bool) → Flag s u (i + 1) → (not u || alone s i) ≡ alone s i
+      by true g = refl
+      by false g = sym (without-inductor s i (recordAt s i) (λ j m. g refl j (omega arith)) (g refl i (omega arith)))
+
 -- the records from i on, the first of them split off
 module _ (s : List ℕ) (l : Limits) (n i : ℕ) (h : i < n) {d : Decoded} (q : d ≡ decodeOf (recordAt s i)) where
-  opened : checkFrom s l (n - i) i ≡ checkStep l i d (checkFrom s l (n - (i + 1)) (i + 1))
+  opened : checkFrom s l (n - i) i ≡ checkStep l i (alone s i) d (checkFrom s l (n - (i + 1)) (i + 1))
   unfolding checkFrom
   opened = let e : n - i ≡ suc (n - (i + 1)) = omega arith in rw (e, q)
 
   stops : {k : ℕ} → d ≡ Refused k → checkFrom s l (n - i) i ≡ Faulty k i
   stops e = rw e at opened
 
-  faulty : {x : Element} {f : ℕ} → d ≡ Good x → f ≡ elementFault l x → (f ≡ 0 → ⊥) → checkFrom s l (n - i) i ≡ Faulty f i
-  faulty {x} {f} e k z =
-      let y : eqb (elementFault l x) 0 ≡ false = rw k at (ne-eqb _ _ z) in
-      rw (e, y, ← k) at opened
+  module _ {x : Element} (e : d ≡ Good x) {own : Bool} (a : own ≡ alone s i) {f : ℕ} (k : f ≡ elementFault l own x) where
+    faulty : (f ≡ 0 → ⊥) → checkFrom s l (n - i) i ≡ Faulty f i
+    faulty z =
+        let y : eqb (elementFault l own x) 0 ≡ false = rw k at (ne-eqb _ _ z) in
+        rw (e, ← a, y, ← k) at opened
 
-  passes : {x : Element} {f : ℕ} → d ≡ Good x → f ≡ elementFault l x → f ≡ 0 → checkFrom s l (n - (i + 1)) (i + 1) ≡ checkFrom s l (n - i) i
-  passes {x} {f} e k z =
-      let y : eqb (elementFault l x) 0 ≡ true = eq-eqb _ _ (sym k ∙ z) in
-      sym (rw (e, y) at opened)
+    passes : f ≡ 0 → checkFrom s l (n - (i + 1)) (i + 1) ≡ checkFrom s l (n - i) i
+    passes z =
+        let y : eqb (elementFault l own x) 0 ≡ true = eq-eqb _ _ (sym k ∙ z) in
+        sym (rw (e, ← a, y) at opened)
 
 abbrev Inv-loop : tie.InvT-loop
-Inv-loop sheet l count i₀ i = (i ≤ count) × (checkFrom sheet l (count - i) i ≡ checkOf sheet l)
+Inv-loop sheet l count b₀ i₀ b i = (i ≤ count) × Flag sheet b i × (checkFrom sheet l (count - i) i ≡ checkOf sheet l)
 
 abbrev μ-loop : tie.MeasureT-loop
-μ-loop sheet l count i₀ i = count - i
+μ-loop sheet l count b₀ i₀ b i = count - i
 
 loop-holds : tie.Need-loop-holds Inv-loop μ-loop
-loop-holds c = (omega arith, rw (sub-zero, c .records .ensures))
+loop-holds c = (omega arith, λ h j m. absurd (omega arith), rw (sub-zero, c .records .ensures))
 
 returns : tie.Need-returns Inv-loop μ-loop
 returns c =
     let s = c .before .before .before .before .before in
-    let a = c .before .before .before .before .before .before .before .before .args in
+    let a = s .before .before .before .args in
     let told = c .before .enum-told .given .1 in
     ap (λ (k : ℕ). Faulty k (s .loop .i)) (c .refusal .ensures ∙ ap recordRefusal told)
-    ∙ (sym (stops (a .sheet .now) (a .l) (s .before .records .result) (s .loop .i) (c .before .before .before .before .loop-test .taken) (c .before .before .before .element-at .ensures) told) ∙ s .loop .inv .1)
+    ∙ (sym (stops (a .sheet .now) (a .l) (s .before .records .result) (s .loop .i) (c .before .before .before .before .loop-test .taken) (c .before .before .before .element-at .ensures) told) ∙ s .loop .inv .2)
 
 returns-2 : tie.Need-returns-2 Inv-loop μ-loop
 returns-2 c =
-    let s = c .before .before .before .before .before .before .before in
-    let a = c .before .before .before .before .before .before .before .before .before .before .args in
-    sym (faulty (a .sheet .now) (a .l) (s .before .records .result) (s .loop .i) (c .before .before .before .before .before .before .loop-test .taken) (c .before .before .before .before .before .element-at .ensures) (c .before .before .before .d .given .1) (c .before .element-fault .ensures) (c .if1 .taken)) ∙ s .loop .inv .1
+    let s = c .before .before .before .before .before .before .before .before .before in
+    let a = s .before .before .before .args in
+    let own = held (a .sheet .now) (s .loop .i) (c .before .before .before .kind-at .ensures) (s .loop .inv .1) (c .before .before .alone-beside .ensures) in
+    sym (faulty (a .sheet .now) (a .l) (s .before .records .result) (s .loop .i) (c .before .before .before .before .before .before .before .before .loop-test .taken) (c .before .before .before .before .before .before .before .element-at .ensures) (c .before .before .before .before .before .d .given .1) own (c .before .element-fault .ensures) (c .if1 .taken)) ∙ s .loop .inv .2
 
 loop-again : tie.Need-loop-again Inv-loop μ-loop
 loop-again c =
-    let s = c .before .before .before .before .before .before .before in
-    let a = c .before .before .before .before .before .before .before .before .before .before .args in
-    (omega arith, passes (a .sheet .now) (a .l) (s .before .records .result) (s .loop .i) (c .before .before .before .before .before .before .loop-test .taken) (c .before .before .before .before .before .element-at .ensures) (c .before .before .before .d .given .1) (c .before .element-fault .ensures) (c .if1 .left) ∙ s .loop .inv .1)
+    let s = c .before .before .before .before .before .before .before .before .before in
+    let a = s .before .before .before .args in
+    let own = held (a .sheet .now) (s .loop .i) (c .before .before .before .kind-at .ensures) (s .loop .inv .1) (c .before .before .alone-beside .ensures) in
+    (omega arith, raised (a .sheet .now) (s .loop .i) (c .before .before .before .kind-at .ensures) (s .loop .inv .1), passes (a .sheet .now) (a .l) (s .before .records .result) (s .loop .i) (c .before .before .before .before .before .before .before .before .loop-test .taken) (c .before .before .before .before .before .before .before .element-at .ensures) (c .before .before .before .before .before .d .given .1) own (c .before .element-fault .ensures) (c .if1 .left) ∙ s .loop .inv .2)
 
 returns-3 : tie.Need-returns-3 Inv-loop μ-loop
 unfolding checkFrom
 returns-3 c =
     let l = c .before .loop in
     let e : c .before .before .records .result - l .i ≡ 0 = omega arith in
-    rw e at (l .inv .1)
+    rw e at (l .inv .2)
 
 pub check-sheet-spec : {M : Type 1} → statement M
-check-sheet-spec = tie.close (tie.spec Inv-loop μ-loop (λ c κs. search needs) loop-holds (λ c κs. search needs) (λ c. search needs) (λ c. search needs) (λ c κs. search needs) returns (λ c κs. search needs) returns-2 (λ c. search needs) (λ c. search needs) loop-again returns-3)
+check-sheet-spec = tie.close (tie.spec Inv-loop μ-loop (λ c κs. search needs) loop-holds (λ c κs. search needs) (λ c. search needs) (λ c. search needs) (λ c κs. search needs) returns (λ c κs. search needs) (λ c κs. search needs) (λ c κs. search needs) returns-2 (λ c. search needs) (λ c. search needs) loop-again returns-3)

@@ -1,4 +1,4 @@
--- Small sheets and what the check answers, computed: each refusal of 6 to 10, the lowest of several, and the first of two faulty records.
+-- Small sheets and what the check answers, computed: each refusal of 6 to 10, the lowest of several, the first of two faulty records, and source numbers that inductors share.
 use Prim.Native.Nat.{ℕ}
 use mathlib.Core.Path.{_≡_, refl}
 use mathlib.Core.List.{List, [], _∷_, _++_, map}
@@ -7,6 +7,7 @@ use Rattle.num.specs.Le.{le32, le64, floatAt}
 use Rattle.sheet.specs.declared.Limits.{Limits}
 use Rattle.sheet.specs.Record.{recordBytes, recordAt, decodeOf, elementOf, usesOf, restZero, zeros}
 use Rattle.sheet.specs.Range.{nodesOf, sourcesOf, pointsOf, nodesFit, sourcesFit, pointsFit, elementFault}
+use Rattle.sheet.specs.Sharing.{shares, noneShares}
 use Rattle.sheet.specs.Check.{checkFrom, checkOf, numberOf, placeOf}
 
 -- a record that begins with these bytes; the rest is zero
@@ -22,6 +23,16 @@ resistor = begins (1 ∷ 0 ∷ 1 ∷ 0 ∷ 2 ∷ [])
 
 abbrev pattern : List ℕ
 pattern = begins (7 ∷ 0 ∷ 1 ∷ 0 ∷ 2 ∷ 0 ∷ 0 ∷ 0 ∷ 0 ∷ 0 ∷ 0 ∷ 0 ∷ 1 ∷ 0 ∷ 1 ∷ [])
+
+-- a record between nodes 1 and 2 of a kind that has a source number
+abbrev numbered : ℕ → ℕ → List ℕ
+numbered kind source = begins (kind ∷ 0 ∷ 1 ∷ 0 ∷ 2 ∷ 0 ∷ 0 ∷ 0 ∷ 0 ∷ 0 ∷ source ∷ [])
+
+abbrev inductor : ℕ → List ℕ
+inductor source = numbered 11 source
+
+abbrev voltage : ℕ → List ℕ
+voltage source = numbered 3 source
 
 unfoldable pub sheets : List (List ℕ)
 sheets =
@@ -45,6 +56,47 @@ unfoldable pub answers : List (ℕ × ℕ)
 answers =
     (0, 0) ∷ (0, 0) ∷ (6, 0) ∷ (6, 1) ∷ (7, 0) ∷ (7, 0) ∷ (8, 0) ∷ (8, 0) ∷ (8, 0) ∷ (9, 1) ∷ (10, 0) ∷ (10, 0) ∷ (0, 0) ∷ (8, 1) ∷ []
 
-pub all-right : map (λ (s : List ℕ). (numberOf (checkOf s limits), placeOf (checkOf s limits))) sheets ≡ answers
-unfolding sheets answers checkFrom recordAt decodeOf elementOf usesOf restZero zeros nodesOf sourcesOf pointsOf nodesFit sourcesFit pointsFit elementFault le32 le64 floatAt
-all-right = refl
+-- source numbers that inductors share: the same counts with a second source
+abbrev two : Limits
+two = record { nodes = 3; sources = 2; points = 2 }
+
+unfoldable pub shared : List (List ℕ)
+shared =
+    (inductor 0 ++ inductor 1)
+    ∷ inductor 2  -- no such source
+    ∷ begins (11 ∷ 0 ∷ 0 ∷ 0 ∷ 3 ∷ [])  -- second node
+    ∷ begins (11 ∷ 0 ∷ 0 ∷ 0 ∷ 0 ∷ 0 ∷ 1 ∷ [])  -- a control node that it does not use
+    ∷ begins (11 ∷ 0 ∷ 0 ∷ 0 ∷ 0 ∷ 0 ∷ 0 ∷ 0 ∷ 0 ∷ 0 ∷ 0 ∷ 0 ∷ 1 ∷ [])  -- a point that it does not use
+    ∷ (inductor 0 ++ voltage 0)
+    ∷ (voltage 0 ++ inductor 0)
+    ∷ (inductor 0 ++ inductor 0)
+    ∷ (voltage 0 ++ voltage 0 ++ inductor 1)
+    ∷ (voltage 0 ++ voltage 0 ++ inductor 0)
+    ∷ (inductor 1 ++ voltage 0 ++ resistor ++ voltage 0)
+    ∷ (inductor 1 ++ voltage 0 ++ resistor ++ voltage 1)
+    ∷ (inductor 0 ++ numbered 6 0)
+    ∷ (inductor 0 ++ numbered 7 0)
+    ∷ (inductor 0 ++ numbered 9 0)
+    ∷ (numbered 6 0 ++ inductor 0)
+    ∷ (numbered 7 0 ++ inductor 0)
+    ∷ (numbered 9 0 ++ inductor 0)
+    ∷ (inductor 0 ++ begins (3 ∷ 0 ∷ 3 ∷ []))  -- a node, before the source number that it shares
+    ∷ (inductor 0 ++ begins (7 ∷ 0 ∷ 0 ∷ 0 ∷ 0 ∷ 0 ∷ 0 ∷ 0 ∷ 0 ∷ 0 ∷ 0 ∷ 0 ∷ 1 ∷ 0 ∷ 2 ∷ []))  -- the source number that it shares, before a point too many
+    ∷ (inductor 0 ++ begins (12 ∷ []) ++ voltage 0)  -- a faulty record comes first
+    ∷ []
+
+unfoldable pub sharing : List (ℕ × ℕ)
+sharing =
+    (0, 0) ∷ (9, 0) ∷ (8, 0) ∷ (7, 0) ∷ (7, 0)
+    ∷ (9, 1) ∷ (9, 1) ∷ (9, 1) ∷ (0, 0) ∷ (9, 2) ∷ (0, 0) ∷ (9, 3)
+    ∷ (9, 1) ∷ (9, 1) ∷ (9, 1) ∷ (9, 1) ∷ (9, 1) ∷ (9, 1)
+    ∷ (8, 1) ∷ (9, 1) ∷ (6, 1)
+    ∷ []
+
+-- number and place of a sheet's check
+abbrev answer : Limits → List ℕ → ℕ × ℕ
+answer l s = (numberOf (checkOf s l), placeOf (checkOf s l))
+
+pub all-right : (map (answer limits) sheets ≡ answers) × (map (answer two) shared ≡ sharing)
+unfolding sheets answers shared sharing checkFrom recordAt decodeOf elementOf usesOf restZero zeros nodesOf sourcesOf pointsOf nodesFit sourcesFit pointsFit elementFault shares noneShares le32 le64 floatAt
+all-right = (refl, refl)

@@ -1,7 +1,7 @@
--- An element without a fault has its numbers in range. Clients cite Inside and inside-of.
+-- An element without a fault has its numbers in range, and its source number is its own. Clients cite Inside and inside-of.
 use Prim.Native.Nat.{ℕ, _<_, _≤_}
 use mathlib.Core.Path.{_≡_, refl}
-use mathlib.Core.Bool.{Bool, true, false, and-eq-true-iff as both}
+use mathlib.Core.Bool.{Bool, true, false, _&&_, and-eq-true-iff as both}
 use mathlib.Core.List.{List, [], _∷_}
 use native.Mathlib.Omega.{arith}
 use borrow.Author.Tests.{ltb-true, leb-true}
@@ -34,12 +34,15 @@ none true false c h = absurd (omega arith)
 none true true false h = absurd (omega arith)
 none true true true h = (refl, refl, refl)
 
-pub inside-of : (l : Limits) (e : Element) → elementFault l e ≡ 0 → Inside l e
+pub inside-of : (l : Limits) (own : Bool) (e : Element) → elementFault l own e ≡ 0 → (own ≡ true) × Inside l e
 unfolding elementFault nodesFit sourcesFit pointsFit
-inside-of l e h =
-    let k = none (nodesFit (l .nodes) e) (sourcesFit (l .sources) e) (pointsFit (l .points) e) h in
-    record {
-      nodes = each (nodeBelow (l .nodes)) _ (λ p. ltb-true _ _) (nodesOf e) (k .0);
-      sources = each (sourceBelow (l .sources)) _ (λ s. ltb-true _ _) (sourcesOf e) (k .1);
-      points = leb-true _ _ (k .2);
-    }
+inside-of l own e h =
+    let k = none (nodesFit (l .nodes) e) (own && sourcesFit (l .sources) e) (pointsFit (l .points) e) h in
+    let s = both own (sourcesFit (l .sources) e) .0 (k .1) in (
+      s .0,
+      record {
+        nodes = each (nodeBelow (l .nodes)) _ (λ p. ltb-true _ _) (nodesOf e) (k .0);
+        sources = each (sourceBelow (l .sources)) _ (λ s. ltb-true _ _) (sourcesOf e) (s .1);
+        points = leb-true _ _ (k .2);
+      },
+    )
