@@ -24,7 +24,7 @@ zeros k = replicate k nought
 abbrev pub baseOn : ℕ → ℕ → List ℕ → List Float
 baseOn nodes n sheet = baseOf nodes n sheet (zeros (n * (n + 1)))
 
--- the state before the first pass: no vector, no system, no row; each diode's memory at 0.0
+-- the state before the first pass: no vector, no system, no row; the memory of each diode and inductor at 0.0
 abbrev pub startOf : Circuit → List Float → List Float → State
 startOf k memory rows =
     let n = k .order in

@@ -1,4 +1,4 @@
-// The buffers as a run begins: the base matrix stamped, zeros for the vectors and the system, and each diode's memory at 0.0.
+// The buffers as a run begins: the base matrix stamped, zeros for the vectors and the system, and the memory of each diode and inductor at 0.0.
 ghost use mathlib.Core.Path.{_≡_};
 ghost use mathlib.Core.List.{[]};
 ghost use Prim.Native.Nat.{_<_};
@@ -9,6 +9,7 @@ ghost use Rattle.steps.specs.Counters.{started};
 ghost use Rattle.machine.specs.State.{buffersOf, stateOf};
 ghost use Rattle.engine.specs.Begin.{forgotten, forgetAt};
 use numbers::kind::DIODE;
+use numbers::kind::INDUCTOR;
 
 // Makes every buffer what it is before the first pass.
 pub fn begin(
@@ -33,7 +34,7 @@ pub fn begin(
     forget(sheet, memory);
 }
 
-// Puts the memory of every diode to 0.0; other records' floats stay.
+// Puts the memory of every diode and inductor to 0.0; other records' floats stay.
 fn forget(sheet: &[u8], memory: &mut [f64])
     ensures { λ _. ⌜ now (memory .exit) ≡ forgotten (now (sheet .entry)) (now (memory .entry)) ⌝ }
 {
@@ -42,12 +43,13 @@ fn forget(sheet: &[u8], memory: &mut [f64])
     }
 }
 
-// Puts the float of record i to 0.0 where that is a diode.
+// Puts the float of record i to 0.0 where that is a diode or an inductor.
 fn forget_at(sheet: &[u8], i: usize, memory: &mut [f64])
     requires { ⌜ i < length (now memory) ⌝ }
     ensures { λ _. ⌜ now (memory .exit) ≡ forgetAt (now (sheet .entry)) i (now (memory .entry)) ⌝ }
 {
-    if sheet::kind_at(sheet, i) == DIODE {
+    let kind = sheet::kind_at(sheet, i);
+    if (kind == DIODE) | (kind == INDUCTOR) {
         memory[i] = 0.0;
     }
 }

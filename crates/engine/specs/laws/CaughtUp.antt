@@ -10,6 +10,7 @@ use native.Mathlib.Omega.{arith}
 use lib.Dec.{eqb}
 use lib.ListN.{take}
 use lib.Ieee.{Float}
+use Rattle.numbers.specs.Kinds.{diode, inductor}
 use Rattle.numbers.specs.Verdicts.{settled, budgetSpent}
 use Rattle.options.specs.declared.Options.{Options}
 use Rattle.options.specs.Switch.{on}
@@ -17,7 +18,9 @@ use Rattle.sheet.specs.declared.Checked.{Checked}
 use Rattle.sheet.specs.declared.Checked.the-variants.{Clean, Faulty}
 use Rattle.checks.specs.Checks.{order, records, badCounts, sizesRefusal, checkedOf}
 use Rattle.checks.specs.laws.Checks.{fine, clean-fine}
+use Rattle.groups.specs.laws.Storage.{taken-elsewhere}
 use Rattle.behind.specs.Behind.{behindNumber}
+use Rattle.behind.specs.laws.Same.{number-same}
 use Rattle.steps.specs.declared.Counters.{Counters}
 use Rattle.steps.specs.declared.Job.{Job}
 use Rattle.steps.specs.declared.Report.{Report}
@@ -27,10 +30,11 @@ use Rattle.steps.specs.Counters.{top, going, verdictOf}
 use Rattle.steps.specs.laws.Waited.{waited-caught}
 use Rattle.steps.specs.laws.Switched.{withCatchup}
 use Rattle.machine.specs.State.{Buffers, State, Attempt}
-use Rattle.machine.specs.Machine.{compared, tried, triedBy, accepts, dcPass, stepPass, pass, runFor}
+use Rattle.machine.specs.Machine.{compared, tried, took, triedBy, accepts, dcPass, stepPass, pass, runFor}
 use Rattle.machine.specs.laws.Settles.{ends-with-yes}
+use Rattle.machine.specs.laws.Taken.{holds-of-both}
 use Rattle.machine.specs.laws.Switched.{Ahead, Pair, same, apart, pairs}
-use Rattle.passes.specs.Attempt.{Circuit, attemptOf}
+use Rattle.passes.specs.Attempt.{Circuit, passOf, attemptOf}
 use Rattle.passes.specs.laws.Switched.{behind-same, attempts-same}
 use Rattle.engine.specs.Work.{startOf, endOf, behindIn}
 use Rattle.engine.specs.Engine.{Call, sizes, checkedCall, Result, resultOf, refusedOf, endingOf, circuit, lastOf, lastEnding, laid, unless, runOf}
@@ -39,12 +43,20 @@ use Rattle.engine.specs.laws.Numbers.{refused-numbers, ended-numbers}
 
 -- ---- a pass that says "yes"
 
+diode-no-inductor : diode ≡ inductor → ⊥
+diode-no-inductor h = omega (arith, h)
+
 module _ (k : Circuit) (on : on (k .job .options .catchup) ≡ true) where
   -- no diode is behind in what it leaves
   yes-caught : (s : State) → triedBy (attemptOf k) (k .job) s .report ≡ Yes
       → behindNumber (k .job .options) (k .sheet) (triedBy (attemptOf k) (k .job) s .vector) (triedBy (attemptOf k) (k .job) s .memory) ≡ 0
-  unfolding tried compared attemptOf
-  yes-caught s e = waited-caught (k .job .options) _ on _ e
+  unfolding took tried compared attemptOf
+  yes-caught s e =
+      let o = k .job .options in
+      let a = attemptOf k (s .counters) (s .accepted) (s .buffers) in
+      let caught : behindNumber o (k .sheet) (a .vector) (a .memory) ≡ 0 = waited-caught o _ on _ e in
+      holds-of-both (attemptOf k) (k .job) s (λ (m : List Float). behindNumber o (k .sheet) (a .vector) m ≡ 0) caught
+      (number-same (k .sheet) (a .vector) (a .taken) (a .memory) (λ i h. taken-elsewhere (passOf (k .job) (k .order) (s .counters)) (k .sheet) (a .vector) i (λ q. diode-no-inductor (sym h ∙ q)) (a .memory)) o ∙ caught)
 
   accepted-yes : (r : Report) → accepts r ≡ true → r ≡ Yes
   accepted-yes Yes h = refl

@@ -8,7 +8,7 @@ use native.Mathlib.Omega.{arith}
 use lib.ListN.{length, getD, drop, List·getD-append}
 use lib.Seq.{drop-at, getD-take, length-take-le}
 use lib.Ieee.{nan}
-use Rattle.numbers.specs.Kinds.{diode}
+use Rattle.numbers.specs.Kinds.{diode, inductor}
 use Rattle.numbers.specs.Refusals.{byOrder, byKind, byPattern}
 use Rattle.numbers.specs.Verdicts.{budgetSpent}
 use Rattle.sheet.specs.declared.Checked.the-variants.{Clean}
@@ -50,7 +50,7 @@ OfAnalysis false v = DcVerdict v
 OfAnalysis true v = Verdict true v
 
 -- a call that ended so: its verdict is one of its analysis, and DC's one of DC; the passes solved are at most the budget, and the budget itself with 24; past the rows written the rows are as they
--- were, past the lengths named every buffer is, and so is the memory of a record that is no diode. (A slice's length fits a word; of longer lists nothing is said of rows.)
+-- were, past the lengths named every buffer is, and so is the memory of a record that is neither diode nor inductor. (A slice's length fits a word; of longer lists nothing is said of rows.)
 pub record Ends (c : Call) (e : Ending) : Type 0 where
   pub verdict : OfAnalysis (c .job .transient) (e .verdict)
   pub dc : DcVerdict (e .dc)
@@ -58,7 +58,7 @@ pub record Ends (c : Call) (e : Ending) : Type 0 where
   pub spent : e .verdict ≡ budgetSpent → e .passes ≡ c .job .options .budget
   pub rows : length (c .lent .rows) ≤ top → (m : ℕ) → e .rows * (order (sizes c) + 1) ≤ m → drop m (runOf c .buffers .rows) ≡ drop m (c .lent .rows)
   pub past : Past c (runOf c .buffers)
-  pub others : (i : ℕ) → i < records (sizes c) → (kindAt (c .sheet) i ≡ diode → ⊥) → getD (runOf c .buffers .memory) i nan ≡ getD (c .lent .memory) i nan
+  pub others : (i : ℕ) → i < records (sizes c) → (kindAt (c .sheet) i ≡ diode → ⊥) → (kindAt (c .sheet) i ≡ inductor → ⊥) → getD (runOf c .buffers .memory) i nan ≡ getD (c .lent .memory) i nan
 
 -- one of the two
 pub data Answer (c : Call) : Outcome → Type 0 where
@@ -104,7 +104,7 @@ module _ (c : Call) where
             vector = drop-at (last .vector) (drop (order (sizes c)) (c .lent .vector)) (order (sizes c)) (h .vector);
             memory = drop-at (last .memory) (drop (records (sizes c)) (c .lent .memory)) (records (sizes c)) memory-long;
           });
-          others = λ i l o. rw b (List·getD-append (last .memory) _ nan i (omega (arith, memory-long)) ∙ (h .memory .others i o ∙ getD-take (records (sizes c)) (c .lent .memory) i nan l));
+          others = λ i l o r. rw b (List·getD-append (last .memory) _ nan i (omega (arith, memory-long)) ∙ (h .memory .others i o r ∙ getD-take (records (sizes c)) (c .lent .memory) i nan l));
         })
 
   -- every call, whatever its input

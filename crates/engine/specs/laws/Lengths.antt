@@ -1,14 +1,14 @@
--- What a run keeps of the buffers it is lent: base, system, vector and memory stay as long as they are, and the memory of a record that is no diode is never touched. Clients cite Own, Held, last-held and base-long. Assumes nothing.
+-- What a run keeps of the buffers it is lent: base, system, vector and memory stay as long as they are, and the memory of a record that is neither diode nor inductor is never touched. Clients cite Own, Held, last-held and base-long. Assumes nothing.
 use Prim.Native.Nat.{ℕ, zero, suc, _+_, _*_}
 use mathlib.Core.Path.{_≡_, refl, ap, _∙_}
-use mathlib.Core.Bool.{Bool, true, false, cond}
+use mathlib.Core.Bool.{Bool, true, false, cond, false≢true}
 use mathlib.Core.List.{List}
 use lib.Dec.{eqb}
 use lib.ListN.{length, getD, set, take, length-replicate, length-set}
 use lib.Seq.{getD-set-other}
 use lib.Ieee.{Float, nan}
-use borrow.Author.Tests.{eqb-true}
-use Rattle.numbers.specs.Kinds.{diode}
+use borrow.Author.Tests.{ne-eqb}
+use Rattle.numbers.specs.Kinds.{diode, inductor}
 use Rattle.num.specs.Floats.{nought}
 use Rattle.loops.specs.Loop.{zerosLike}
 use Rattle.loops.specs.laws.Loop.{turns-inv}
@@ -18,22 +18,24 @@ use Rattle.stamps.specs.laws.Write.{stamped-length}
 use Rattle.groups.specs.Plain.{basedOn}
 use Rattle.groups.specs.Stamping.{baseOf, stampOf}
 use Rattle.groups.specs.laws.Stamping.{fine, memory-stays}
+use Rattle.groups.specs.laws.Storage.{taken-length, taken-elsewhere}
 use Rattle.steps.specs.declared.Counters.{Counters}
 use Rattle.steps.specs.Phases.{dcPhase, transientPhase}
 use Rattle.steps.specs.declared.Job.{Job}
 use Rattle.groups.specs.declared.Pass.{Pass}
 use Rattle.machine.specs.State.{Buffers, buffersOf, State, Solved}
-use Rattle.machine.specs.Machine.{compared, tried, triedBy, accepts, dcPass, stepPass, pass, runFor}
+use Rattle.machine.specs.Machine.{compared, tried, took, triedBy, accepts, dcPass, stepPass, pass, runFor}
+use Rattle.machine.specs.laws.Taken.{holds-of-both}
 use Rattle.passes.specs.Attempt.{Circuit, passOf, attemptOf}
 use Rattle.passes.specs.laws.Attempt.{steady}
-use Rattle.engine.specs.Begin.{forgetAt, forgotten}
+use Rattle.engine.specs.Begin.{remembers, forgetAt, forgotten}
 use Rattle.engine.specs.Work.{zeros, baseOn, startOf, endOf}
 use Rattle.engine.specs.Engine.{Call, sizes, circuit, lastOf}
 
--- a memory as long as y, in which every record of the sheet that is no diode has the float that it has in y
+-- a memory as long as y, in which every record of the sheet that is neither a diode nor an inductor has the float that it has in y
 pub record Own (sheet : List ℕ) (y m : List Float) : Type 0 where
   pub long : length m ≡ length y
-  pub others : (i : ℕ) → (kindAt sheet i ≡ diode → ⊥) → getD m i nan ≡ getD y i nan
+  pub others : (i : ℕ) → (kindAt sheet i ≡ diode → ⊥) → (kindAt sheet i ≡ inductor → ⊥) → getD m i nan ≡ getD y i nan
 
 -- a base and a system of N rows of N + 1, a vector of N, and such a memory
 pub record Held (k : Circuit) (y : List Float) (x : Buffers) : Type 0 where
@@ -74,24 +76,35 @@ module _ (k : Circuit) (y : List Float) where
         kept =
             record {
               long = fine (k .job .options) p (k .sheet) (k .points) (x .base) a (x .vector) (x .memory) (x .base) .memory-length ∙ h .memory .long;
-              others = λ i o. memory-stays (k .job .options) p (k .sheet) (k .points) (x .base) a (x .vector) (x .memory) (x .base) i o ∙ h .memory .others i o;
+              others = λ i o q. memory-stays (k .job .options) p (k .sheet) (k .points) (x .base) a (x .vector) (x .memory) (x .base) i o ∙ h .memory .others i o q;
             }
 
         go : (b : Bool) (u v : Solved) → Own (k .sheet) y (u .memory) → Own (k .sheet) y (v .memory) → Own (k .sheet) y (cond b u v .memory)
         go true u v p q = p
         go false u v p q = q
 
+    -- and so do the currents that inductors take
+    attempt-taken : Own (k .sheet) y (attemptOf k c a x .taken)
+    unfolding attemptOf
+    attempt-taken =
+        let z = attemptOf k c a x in
+        let p = passOf (k .job) (k .order) c in
+        record {
+          long = taken-length p (k .sheet) (z .vector) (z .memory) ∙ attempt-memory .long;
+          others = λ i o q. taken-elsewhere p (k .sheet) (z .vector) i q (z .memory) ∙ attempt-memory .others i o q;
+        }
+
   -- ---- a pass, and a run
 
   module _ (j : Job) where
     tried-held : (s : State) (r : List Float) → Holds (s .buffers) → Holds (buffersOf (s .buffers .base) (triedBy (attemptOf k) j s .system) (triedBy (attemptOf k) j s .vector) (triedBy (attemptOf k) j s .memory) r)
-    unfolding tried compared
+    unfolding took tried compared
     tried-held s r h =
         record {
           base = h .base;
           system = attempt-system (s .counters) (s .accepted) (s .buffers) h;
           vector = steady k (s .counters) (s .accepted) (s .buffers) (h .vector);
-          memory = attempt-memory (s .counters) (s .accepted) (s .buffers) h;
+          memory = holds-of-both (attemptOf k) j s (Own (k .sheet) y) (attempt-memory (s .counters) (s .accepted) (s .buffers) h) (attempt-taken (s .counters) (s .accepted) (s .buffers) h);
         }
 
     pass-held : (s : State) → Holds (s .buffers) → Holds (pass (attemptOf k) j s .buffers)
@@ -119,18 +132,22 @@ pub base-long : (nodes n : ℕ) (sheet : List ℕ) → length (baseOn nodes n sh
 unfolding baseOf basedOn
 base-long nodes n sheet = stamped-length n _ (zerosLike (zeros (n * (n + 1)))) ∙ (length-replicate (length (zeros (n * (n + 1)))) nought ∙ length-replicate (n * (n + 1)) nought)
 
--- as a run begins only diodes' memory is put to 0.0
+-- a record of another kind remembers nothing
+other-forgets-none : (sheet : List ℕ) (i : ℕ) → (kindAt sheet i ≡ diode → ⊥) → (kindAt sheet i ≡ inductor → ⊥) → remembers (kindAt sheet i) ≡ true → ⊥
+other-forgets-none sheet i o r e = false≢true (rw (ne-eqb _ _ o, ne-eqb _ _ r) at e)
+
+-- as a run begins only the memory of diodes and inductors is put to 0.0
 forgotten-own : (sheet : List ℕ) (y : List Float) → Own sheet y (forgotten sheet y)
 unfolding forgotten
 forgotten-own sheet y =
-    turns-inv (Own sheet y) (forgetAt sheet) (length y) y (record { long = refl; others = λ i o. refl })
-    (λ i l m h. forget (eqb (kindAt sheet i) diode) i m refl h)
+    turns-inv (Own sheet y) (forgetAt sheet) (length y) y (record { long = refl; others = λ i o q. refl })
+    (λ i l m h. forget (remembers (kindAt sheet i)) i m refl h)
   where
-    forget : (b : Bool) (i : ℕ) (m : List Float) → eqb (kindAt sheet i) diode ≡ b → Own sheet y m → Own sheet y (cond b (set m i nought) m)
+    forget : (b : Bool) (i : ℕ) (m : List Float) → remembers (kindAt sheet i) ≡ b → Own sheet y m → Own sheet y (cond b (set m i nought) m)
     forget true i m e h =
         record {
           long = length-set m i nought ∙ h .long;
-          others = λ j o. getD-set-other m i j nought nan (λ q. o (ap (kindAt sheet) q ∙ eqb-true _ _ e)) ∙ h .others j o;
+          others = λ j o r. getD-set-other m i j nought nan (λ q. other-forgets-none sheet j o r (ap (λ (n : ℕ). remembers (kindAt sheet n)) q ∙ e)) ∙ h .others j o r;
         }
     forget false i m e h = h
 

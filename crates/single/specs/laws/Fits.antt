@@ -20,7 +20,7 @@ use Rattle.steps.specs.declared.Counters.{Counters}
 use Rattle.steps.specs.declared.Job.{Job}
 use Rattle.steps.specs.Phases.{dcPhase, transientPhase}
 use Rattle.machine.specs.State.{Buffers, State, Solved}
-use Rattle.machine.specs.Machine.{compared, tried, triedBy, accepts, dcPass, stepPass, pass, runFor}
+use Rattle.machine.specs.Machine.{compared, tried, took, triedBy, accepts, dcPass, stepPass, pass, runFor}
 use Rattle.passes.specs.Attempt.{Circuit, passOf, attemptOf}
 use Rattle.engine.specs.Work.{zeros, startOf, endOf}
 use Rattle.engine.specs.Engine.{Call, sizes, circuit, lastOf}
@@ -91,7 +91,7 @@ attempt-fits k c a x p =
 
 module _ (k : Circuit) (j : Job) where
   tried-fits : (s : State) → AllFit (s .buffers .vector) → AllFit (triedBy (attemptOf k) j s .vector)
-  unfolding tried compared
+  unfolding took tried compared
   tried-fits s p = attempt-fits k (s .counters) (s .accepted) (s .buffers) p
 
   pass-fits : (s : State) → AllFit (s .buffers .vector) → AllFit (pass (attemptOf k) j s .buffers .vector)

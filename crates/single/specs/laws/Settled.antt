@@ -27,7 +27,7 @@ use Rattle.steps.specs.Control.{reportOf}
 use Rattle.steps.specs.laws.Waited.{waited-yes}
 use Rattle.steps.specs.declared.Job.{Job}
 use Rattle.machine.specs.State.{State, Attempt}
-use Rattle.machine.specs.Machine.{before, compared, tried, triedBy}
+use Rattle.machine.specs.Machine.{before, compared, tried, took, triedBy}
 use Rattle.machine.specs.laws.Settles.{ends-with-yes}
 use Rattle.passes.specs.Attempt.{attemptOf}
 use Rattle.engine.specs.Work.{startOf, endOf}
@@ -81,7 +81,7 @@ yes-reported false false r e = absurd (let z : _≡_ {A = ℕ} 0 1 = cc in omega
 
 module _ (f : Attempt) (j : Job) (s : State) where
   tried-finite : triedBy f j s .report ≡ Yes → AllFinite (triedBy f j s .vector)
-  unfolding tried compared
+  unfolding took tried compared
   tried-finite e =
       let a = f (s .counters) (s .accepted) (s .buffers) in
       yes-finite (a .vector) (before (s .counters .first) (s .buffers .vector)) (j .nodes) (j .options)
