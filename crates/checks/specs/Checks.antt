@@ -35,7 +35,7 @@ highLimit o = ltb mostPasses (o .itl1) || ltb mostPasses (o .itl3) || ltb mostPa
 unfoldable pub badCounts : Options → Bool
 badCounts o = highLimit o || eqb (o .budget) 0 || ltb mostBudget (o .budget)
 
--- 5: a lent buffer too short: three matrices of N(N+1), vector N, one float per record for diode memory, rows N+1 (transient)
+-- 5: a lent buffer too short: three matrices of N(N+1), vector N, one float of memory per record, rows N+1 (transient)
 abbrev pub shortMatrix : Sizes → Bool
 shortMatrix z = ltb (z .base) (cells z) || ltb (z .system) (cells z) || ltb (z .elimination) (cells z)
 

@@ -204,12 +204,14 @@ pub fn check_sheet(sheet: &[u8], l: Limits) -> Checked
     let mut inductor = false; // whether one stands among the records up to i
     let mut i = 0;
     while i < count {
-        let d = element_at(sheet, i);
+        let bytes = record_at(sheet, i);
+        let d = decode(bytes);
         let Decoded::Good(e) = d else {
             return Checked::Faulty(refusal(d), i);
         };
-        inductor = inductor | (kind_at(sheet, i) == numbers::kind::INDUCTOR);
-        let fault = range::element_fault(l, sharing::alone_beside(inductor, sheet, i), e);
+        inductor = inductor | sharing::is_inductor(bytes);
+        let own = sharing::alone_beside(inductor, sheet, i);
+        let fault = range::element_fault(l, own, e);
         if fault != 0 {
             return Checked::Faulty(fault, i);
         }

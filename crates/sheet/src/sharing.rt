@@ -43,7 +43,7 @@ fn shares(r: &[u8], q: &[u8]) -> bool
 }
 
 // Whether a record's kind is the inductor's.
-fn is_inductor(bytes: &[u8]) -> bool
+pub fn is_inductor(bytes: &[u8]) -> bool
     ensures { λ r. ⌜ r ≡ sharing.isInductor (now (bytes .entry)) ⌝ }
 {
     record::byte_at(bytes, 0) == numbers::kind::INDUCTOR

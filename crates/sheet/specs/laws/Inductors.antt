@@ -1,7 +1,7 @@
 -- What the check promises of inductors: in a clean sheet each has its source number to itself; 9 is given at the later of two records that share one; and a sheet without an inductor is checked as if there were none.
 -- Clients cite inductor-alone, later-refused, plainOf and without-inductors. Assumes nothing.
 use Prim.Native.Nat.{ℕ, zero, suc, _+_, _-_, _<_, _≤_}
-use mathlib.Core.Path.{_≡_, refl, sym, _∙_, ap, subst}
+use mathlib.Core.Path.{_≡_, refl, sym, _∙_, ap}
 use mathlib.Core.Bool.{Bool, true, false, cond, or-true, false≢true}
 use mathlib.Core.List.{List, [], _∷_}
 use native.Mathlib.Omega.{arith}
@@ -17,14 +17,13 @@ use Rattle.sheet.specs.declared.SourceId.{SourceId}
 use Rattle.sheet.specs.declared.Limits.{Limits}
 use Rattle.sheet.specs.declared.Element.{Element}
 use Rattle.sheet.specs.declared.Element.the-variants.{L}
-use Rattle.sheet.specs.declared.Decoded.{Decoded}
 use Rattle.sheet.specs.declared.Decoded.the-variants.{Good}
 use Rattle.sheet.specs.declared.Checked.{Checked}
 use Rattle.sheet.specs.declared.Checked.the-variants.{Clean, Faulty}
 use Rattle.sheet.specs.Record.{recordAt, kindAt, sourceAt, usesOf, decodeOf}
 use Rattle.sheet.specs.Kind.{kindOf}
 use Rattle.sheet.specs.Range.{sourcesOf, nodesFit, elementFault}
-use Rattle.sheet.specs.Sharing.{isInductor, hasSource, shares, noneShares, alone}
+use Rattle.sheet.specs.Sharing.{isInductor, hasSource, shares, alone}
 use Rattle.sheet.specs.Check.{checkStep, checkFrom, checkOf, recordsOf}
 use Rattle.sheet.specs.laws.Inside.{Each}
 use Rattle.sheet.specs.laws.Kind.{kind-at, sources-at}

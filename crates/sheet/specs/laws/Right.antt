@@ -7,7 +7,6 @@ use native.Mathlib.Omega.{arith}
 use native.Mathlib.Nat.{zero-add, add-zero, suc-add}
 use borrow.Author.Tests.{eqb-false, lt-ltb, le-leb}
 use lib.Dec.{eqb}
-use lib.ListN.{getD}
 use Rattle.num.specs.Lists.{every}
 use Rattle.numbers.specs.Kinds.{resistor, inductor}
 use Rattle.sheet.specs.declared.Limits.{Limits}

@@ -1,11 +1,11 @@
 -- What is told by records that share no source number, and where none can. Clients cite each-apart, none-shares, without-inductor, sourceless and apart. Assumes nothing.
 use Prim.Native.Nat.{ℕ, zero, suc, _<_}
-use mathlib.Core.Path.{_≡_, refl, sym, _∙_, ap, subst}
-use mathlib.Core.Bool.{Bool, true, false, not, _&&_, _||_, or-true, and-false, and-eq-true-iff as both}
+use mathlib.Core.Path.{_≡_, refl, subst}
+use mathlib.Core.Bool.{Bool, true, false, not, _||_, and-false, and-eq-true-iff as both}
 use mathlib.Core.List.{List}
 use native.Mathlib.Omega.{arith}
 use borrow.Author.Tests.{ltb-true, ltb-false, eqb-false, not-true}
-use lib.Dec.{eqb, ltb}
+use lib.Dec.{ltb}
 use Rattle.num.specs.Le.{le16}
 use Rattle.sheet.specs.Record.{recordAt}
 use Rattle.sheet.specs.Sharing.{isInductor, hasSource, shares, noneShares}
