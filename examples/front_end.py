@@ -100,7 +100,7 @@ def choked(nominal):
 
 # RELTOL, VNTOL, ABSTOL, TSTART, TSTOP, TSTEP, FS, FT, RMIN, RMAX, GMIN, BOLTZMANN, CHARGE. RELTOL is small because with 1e-3 the bias string settles
 # falsely at 5 V (docs/DIFFERENCES.md, "False settling").
-def options_of(tstart, tstop, tstep): return struct.pack('<13d', 1e-9, 1e-9, 1e-12, tstart, tstop, tstep, 0.5, 0.25, 1e-3, 2.0, 1e-12, 1.3806488e-23, 1.603e-19)
+def options_of(tstart, tstop, tstep, fs=0.5): return struct.pack('<13d', 1e-9, 1e-9, 1e-12, tstart, tstop, tstep, fs, 0.25, 1e-3, 2.0, 1e-12, 1.3806488e-23, 1.603e-19)
 
 
 # rows begin when the empty capacitors have filled
