@@ -1,4 +1,4 @@
-/* The current of an inductor from C, step by step: 1 V comes on at time 0 across a resistor and 10 mH in a row, then across these and a
+/* The current of an inductor from C, step by step: 1 V comes on at time 0 across a resistor and 10 mH in series, then across these and a
  * capacitor (docs/INDUCTORS.md). In a transient the inductor's current is in its float of the memory alone. A run to the end of step k
  * leaves it as it was then: so each line is a run, with the memory, the current of the volt's source turned round, the voltage, and what
  * the closed form has at that time. tools/inductor/picture.py draws the lines.

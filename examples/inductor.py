@@ -4,7 +4,7 @@
     python3 examples/inductor.py            writes examples/inductor.jobs, which ./savrunte runs
     python3 examples/inductor.py --table    runs these jobs by ./savrunte and prints a table for a plot: what the rows say and what the closed form says, at each time
 
-RL: 1 V comes on at time 0 across 2 ohm and 10 mH in a row. RLC: the same across 60 ohm, 10 mH and 1 uF, which is underdamped.
+RL: 1 V comes on at time 0 across 2 ohm and 10 mH in series. RLC: the same across 60 ohm, 10 mH and 1 uF, which is underdamped.
 
 Nodes: 0 ground, 1 the volt, 2 between resistor and inductor, 3 between inductor and capacitor. Sources: 0 the inductor, 1 the volt. In a transient an inductor's own unknown is 0.0; its current is read here as that of the volt, turned
 round. With ITL3 0 no step is doubled, so that all steps of a job are of one length; TSTOP is half a step before the last one's end. The last row is labelled TSTOP and gets here the time that it was solved for.
