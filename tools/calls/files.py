@@ -131,9 +131,9 @@ ACROSS = [(49.0, 3.0), (7.0, 0.5), (0.3, 0.1)]
 CHOKE_OHM, CHOKE_VOLT, CHOKE_STEPS = 0.5, 8.0, 5
 
 
-def choke(henry, step, ohm=CHOKE_OHM, **how):
-    """A voltage that comes on in the first step, across an inductor behind a resistor or, with no ohm, across the inductor alone."""
-    points = struct.pack('<6d', 0.0, 0.0, step, CHOKE_VOLT, 1e6, CHOKE_VOLT)
+def choke(henry, step, ohm=CHOKE_OHM, rise=None, **how):
+    """A voltage that comes on in the first step, or in another time, across an inductor behind a resistor or, with no ohm, across the inductor alone."""
+    points = struct.pack('<6d', 0.0, 0.0, rise or step, CHOKE_VOLT, 1e6, CHOKE_VOLT)
     records = [pattern(1, 0, 1, 0, 3, 0.0, -1.0)] + ([resistor(1, 2, ohm), inductor(2, 0, 0, henry)] if ohm else [inductor(1, 0, 0, henry)])
     moves = dict(nodes=3 if ohm else 2, sources=2, transient=True, rows=CHOKE_STEPS + 1, tstep=step, tstop=(CHOKE_STEPS - 0.5) * step)
     return job(records, points=points, **{**moves, **how})
