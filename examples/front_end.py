@@ -12,6 +12,9 @@ Jobs: 0 the DC operating point and 1 the transient, both judged; 2 is DC with to
 supply's rows follow the ramp, each with the level at the time for which its step was solved (docs/DIFFERENCES.md, "A row's time is not the time solved"),
 while the capacitors fill from empty, and the last ones have 5 V to the bit. 5 is the same job without the option: at time 0 the ramp's level is no number,
 DC ends with 21 (convergence error) and the transient with 22 in its first pass.
+6 and 7 are jobs 0 and 1 of the front end with a choke, both judged: its supply goes through an inductor with its resistance to node 1, where a capacitor holds it. The supply itself is node 12 there,
+and node 13 is between the choke's inductor and its resistance; source 4 is the inductor. At DC it is a short, and source 4 is its current. In the transient the capacitor begins empty, and the supply comes
+up through the choke before the first row after 0 is written; source 4 is 0 in these rows, and the choke's current is that of source 0 turned round (docs/INDUCTORS.md).
 """
 import os
 import struct
@@ -33,6 +36,7 @@ def pattern(p, n, source, first, count, delay, repeat): return record(7, p, n, s
 def capacitor(p, n, farad): return record(8, p, n, floats=[farad])
 def vcvs(p, n, cp, cn, source, gain): return record(9, p, n, controls=(cp, cn), source=source, floats=[gain])
 def vccs(p, n, cp, cn, siemens): return record(10, p, n, controls=(cp, cn), floats=[siemens])
+def inductor(p, n, source, henry): return record(11, p, n, source=source, floats=[henry])
 
 
 # the light: a flash with a quick rise and a slow fall
@@ -89,9 +93,14 @@ def ramped(nominal):
     return [pattern(1, 0, 0, len(POINTS), len(RAMP), 0.0, -1.0)] + nominal[1:]
 
 
+def choked(nominal):
+    """The same front end with a choke in its supply. Its resistance damps it: with 10 uH and 100 nF, 20 ohm let the supply come up without going over."""
+    return [voltage(12, 0, 0, 5.0)] + nominal[1:] + [inductor(12, 13, 4, 1e-5), resistor(13, 1, 20.0), capacitor(1, 0, 1e-7)]
+
+
 # RELTOL, VNTOL, ABSTOL, TSTART, TSTOP, TSTEP, FS, FT, RMIN, RMAX, GMIN, BOLTZMANN, CHARGE. RELTOL is small because with 1e-3 the bias string settles
 # falsely at 5 V (docs/DIFFERENCES.md, "False settling").
-def options_of(tstart, tstop, tstep): return struct.pack('<13d', 1e-9, 1e-9, 1e-12, tstart, tstop, tstep, 0.5, 0.25, 1e-3, 2.0, 1e-12, 1.3806488e-23, 1.603e-19)
+def options_of(tstart, tstop, tstep, fs=0.5): return struct.pack('<13d', 1e-9, 1e-9, 1e-12, tstart, tstop, tstep, fs, 0.25, 1e-3, 2.0, 1e-12, 1.3806488e-23, 1.603e-19)
 
 
 # rows begin when the empty capacitors have filled
@@ -100,14 +109,19 @@ OPTIONS = options_of(9e-6, 1.8e-5, 1e-7)
 RAMP_OPTIONS = options_of(0.0, 9e-6, 5e-7)
 POINT_BYTES, RAMP_BYTES = (b''.join(struct.pack('<dd', *p) for p in points) for points in (POINTS, RAMP))
 # row 0 is empty; amperes at the nodes, volts at the sources
-TOLERANCES = [0.0] + [1e-12] * (NODES - 1) + [1e-9] * SOURCES
+def tolerances_of(nodes, sources): return [0.0] + [1e-12] * (nodes - 1) + [1e-9] * sources
 
 
-def job(sheet, transient=0, rows=0, itl1=50, tolerances=(), options=OPTIONS, points=POINT_BYTES, pattern_first=0, nodes=NODES, sources=SOURCES):
+TOLERANCES = tolerances_of(NODES, SOURCES)
+# with the choke: two nodes more, and its inductor among the sources
+CHOKED = dict(nodes=NODES + 2, sources=SOURCES + 1, tolerances=tolerances_of(NODES + 2, SOURCES + 1))
+
+
+def job(sheet, transient=0, rows=0, itl1=50, itl3=8, tolerances=(), options=OPTIONS, points=POINT_BYTES, pattern_first=0, nodes=NODES, sources=SOURCES):
     """A job of form 2; its last two words are the options catchup, which stays off, and pattern_first."""
     n = nodes + sources
     lent = [n * (n + 1)] * 3 + [n, len(sheet) // 40, rows * (n + 1)]
-    body = struct.pack('<4Q', 32, transient, nodes, sources) + options + struct.pack('<4Q', itl1, 8, 20, 10000)
+    body = struct.pack('<4Q', 32, transient, nodes, sources) + options + struct.pack('<4Q', itl1, itl3, 20, 10000)
     body += struct.pack('<2Q', len(sheet), len(points)) + struct.pack('<6Q', *lent) + struct.pack('<2Q', 0, pattern_first)
     body += sheet + points + struct.pack('<%dd' % len(tolerances), *tolerances)
     return struct.pack('<Q', len(body) + 8) + body
@@ -127,6 +141,8 @@ def main():
     ramp = dict(sheet=b''.join(ramped(nominal)), transient=1, rows=40, tolerances=TOLERANCES, options=RAMP_OPTIONS, points=POINT_BYTES + RAMP_BYTES)
     jobs = [job(sheet, tolerances=TOLERANCES), job(sheet, transient=1, rows=400, tolerances=TOLERANCES), job(sheet, itl1=4), job(damaged)]
     jobs += [job(**ramp, pattern_first=1), job(**ramp)]
+    choke = b''.join(choked(nominal))
+    jobs += [job(choke, **CHOKED), job(choke, transient=1, rows=400, **CHOKED)]
     write('front_end.jobs', jobs)
 
 

@@ -25,6 +25,31 @@
 extern "C" {
 #endif
 
+/* ---- sheets ---- */
+
+/* A sheet is records of 40 bytes end to end, one for each element, little-endian: the kind at 0, then 16-bit numbers, then doubles. What a
+ * kind does not use is zero, and so is byte 1. Nodes count from 0, which is ground, sources from 0; docs/FORMATS.md has this too.
+ *
+ *   kind            from 2    from 6     at 10   from 12       from 16
+ *    1 resistor     2 nodes                                    ohms
+ *    2 current      2 nodes                                    amperes
+ *    3 voltage      2 nodes              source                volts
+ *    4 diode        2 nodes                                    saturation current in amperes, temperature in C
+ *    5 Isin         2 nodes                                    offset and amplitude in amperes, hertz
+ *    6 Vsin         2 nodes              source                offset and amplitude in volts, hertz
+ *    7 Vpwl         2 nodes              source  first, count  delay in seconds, repeat: below zero for none
+ *    8 capacitor    2 nodes                                    farads
+ *    9 Vcvs         2 nodes   2 controls source                gain
+ *   10 Vccs         2 nodes   2 controls                       siemens
+ *   11 inductor     2 nodes              source                henries
+ *
+ * A source number says which unknown is the current from the first node to the second: place nodes + number of the vector. Two sources
+ * may share one; an inductor shares its own with no record. first and count name a part of the points: 16 bytes each, time and level.
+ *
+ * An inductor is a short at DC, as a voltage source of 0 V with its number. In a step of a transient it is the conductance step / henries
+ * beside a current from its first node to its second, its current so far; its own unknown is then 0.0, and its current is in the memory
+ * alone (docs/INDUCTORS.md). */
+
 /* ---- numbers ---- */
 
 enum savrunte_refusal {
@@ -34,10 +59,10 @@ enum savrunte_refusal {
     SAVRUNTE_REFUSED_POINTS = 3,    /* points not whole records of 16 bytes, or above 1,024 */
     SAVRUNTE_REFUSED_COUNTS = 4,    /* ITL1, ITL3 or ITL4 above 10,000; budget 0 or above 1,000,000 */
     SAVRUNTE_REFUSED_ROOM = 5,      /* a lent buffer is too short */
-    SAVRUNTE_REFUSED_KIND = 6,      /* a record's kind is not 1 to 10 */
+    SAVRUNTE_REFUSED_KIND = 6,      /* a record's kind is not 1 to 11 */
     SAVRUNTE_REFUSED_UNUSED = 7,    /* byte 1 or an unused byte of a record is not zero */
     SAVRUNTE_REFUSED_NODE = 8,      /* a node is not below the node count */
-    SAVRUNTE_REFUSED_SOURCE = 9,    /* a source number is not below the source count */
+    SAVRUNTE_REFUSED_SOURCE = 9,    /* a source number is not below the source count, or two records share it and one is an inductor (told of the later) */
     SAVRUNTE_REFUSED_RANGE = 10,    /* first point plus count is above the points given */
     SAVRUNTE_REFUSED_NUMBER = 11,   /* judge: a number not finite, or a tolerance below zero */
     SAVRUNTE_REFUSED_SINE = 12,     /* sin: finite and beyond 2^20 in size */
@@ -141,7 +166,13 @@ typedef struct savrunte_diode_answer {
 
 /* The DC operating point. Lent: three matrices of at least N(N+1) floats, a vector of N, one float of memory for each record.
  * Afterwards: base matrix; the last system stamped whole (zeros if none); elimination is scratch; the last solved vector
- * (zeros if none); each diode's last limited voltage, other records' floats untouched. Nothing past those lengths changes. */
+ * (zeros if none); the memory. Nothing past those lengths changes.
+ *
+ * Memory: float i is record i's. A diode has its last limited voltage there, an inductor its current; a run first sets both to 0.0,
+ * whatever stood there. Floats of other records stay as they are. An inductor's current moves in two places only: where DC ends with 0,
+ * 20 or 21 it becomes the inductor's own unknown of the DC vector, a NaN too; where a step of a transient is accepted it becomes
+ * step / henries times the voltage across it plus the current before. So it is still 0.0 where DC ends with 22 or 24, and a step that is
+ * cut, or that ends a run with 21, 22, 23, 24 or 26, does not move it. */
 savrunte_dc_answer savrunte_dc(
     const uint8_t *sheet, size_t sheet_len,
     const uint8_t *points, size_t points_len,
@@ -166,7 +197,7 @@ savrunte_transient_answer savrunte_transient(
     double *rows, size_t rows_len);
 
 /* All spreads in one call: up to 256 DC jobs with the same counts, points, options and budget each, their sheets end to end.
- * Each job is what savrunte_dc makes of its own sheet with fresh diode memory. Refusals in order: 13; 1; 2 (sheets_len not a
+ * Each job is what savrunte_dc makes of its own sheet with fresh memory. Refusals in order: 13; 1; 2 (sheets_len not a
  * multiple of jobs * 40, or more than 256 records a sheet; empty sheets are allowed); 3; 4; 5 (any lent buffer too short).
  * A job refused by 6 to 10 is counted under its number, with 0 passes and a zero vector, and stops nothing. The counts over
  * all numbers add up to jobs. Nothing past the lengths named changes. */

@@ -5,7 +5,7 @@ import sys
 from collections import namedtuple
 
 sys.path.insert(0, os.path.join(os.path.dirname(os.path.abspath(__file__)), '../../examples'))
-from front_end import capacitor, current, diode, pattern, record, resistor, sine_current, voltage  # noqa: E402
+from front_end import capacitor, current, diode, inductor, pattern, record, resistor, sine_current, vcvs, voltage  # noqa: E402
 
 NAN, INF = float('nan'), float('inf')
 
@@ -122,6 +122,23 @@ def beside(shape, **how):
     return job(driven(shape, voltage(2, 0, 1, 1.0)), nodes=3, sources=2, points=LEVEL_BYTES, **how)
 
 
+# an inductor across a resistor, and the same beside a source, which has the last number and hides nothing of the inductor
+SHORT = [current(0, 1, 1.0), resistor(1, 0, 5.0), inductor(1, 0, 0, 3.0)]
+SHORT_BESIDE = SHORT + [voltage(2, 0, 1, 1.0)]
+# henries and steps: behind half an ohm, where every number of a step is a float; across a source, where that is never so
+CHOKES = [(0.5, 1.0), (0.5, 3.0), (0.25, 3.5)]
+ACROSS = [(49.0, 3.0), (7.0, 0.5), (0.3, 0.1)]
+CHOKE_OHM, CHOKE_VOLT, CHOKE_STEPS = 0.5, 8.0, 5
+
+
+def choke(henry, step, ohm=CHOKE_OHM, rise=None, **how):
+    """A voltage that comes on in the first step, or in another time, across an inductor behind a resistor or, with no ohm, across the inductor alone."""
+    points = struct.pack('<6d', 0.0, 0.0, rise or step, CHOKE_VOLT, 1e6, CHOKE_VOLT)
+    records = [pattern(1, 0, 1, 0, 3, 0.0, -1.0)] + ([resistor(1, 2, ohm), inductor(2, 0, 0, henry)] if ohm else [inductor(1, 0, 0, henry)])
+    moves = dict(nodes=3 if ohm else 2, sources=2, transient=True, rows=CHOKE_STEPS + 1, tstep=step, tstop=(CHOKE_STEPS - 0.5) * step)
+    return job(records, points=points, **{**moves, **how})
+
+
 def divider(**how):
     return job(DIVIDER, nodes=3, sources=1, **how)
 
@@ -200,7 +217,7 @@ def runs_of_jobs():
     yield one('room', 'refused 5 at 0; refused 5 at 0', DOUBT, job(ONE_VOLT, lent=[6, 6, 6, 1, 2, 0]), moving(rows=0))
     yield one('lent-more', 'ended 0', SURE, job(ONE_VOLT, lent=[2**64 - 1] * 6))
     bad = {
-        'kind': ('6 at 2', record(11, 1, 0)),
+        'kind': ('6 at 2', record(13, 1, 0)),
         'unused': ('7 at 2', b'\1\1' + resistor(1, 0, 1.0)[2:]),
         'node': ('8 at 2', resistor(2, 0, 1.0)),
         'source': ('9 at 2', voltage(1, 0, 0, 1.0)),
@@ -224,6 +241,53 @@ def runs_of_jobs():
     yield one('no-diode-behind', 'ended 0', SURE, job(DIVIDER, nodes=3, sources=1, vntol=0.0))
     yield one('moving-caught-up', 'ended 0 dc 0 rows 4', SURE, job(rectifier(5.0), transient=True, rows=9, **held))
     yield one('moving-behind', 'ended 24 dc 0 rows 1 behind 3', DOUBT, job(rectifier(5.0), transient=True, rows=9, budget=3, **held))
+    yield from runs_of_inductors(one)
+    yield from sharing_inductors(one)
+
+
+def runs_of_inductors(one):
+    """Inductors at DC and through a transient: every verdict that a run with one can have of its own."""
+    moves = dict(transient=True, rows=9)
+    yield one('inductor', 'ended 0; ended 0, accepted', SURE, job(SHORT, sources=1), job(SHORT, sources=1, tolerances=[0.0] * 3))
+    yield one('inductor-20', 'ended 20', DOUBT, job(SHORT, sources=1, itl=(0, 0, 10)))
+    yield one('inductor-24', 'ended 24', DOUBT, job(SHORT, sources=1, budget=1))
+    yield one('inductor-after-20', 'ended 0 dc 20 rows 4', DOUBT, job(SHORT_BESIDE, nodes=3, sources=2, itl=(0, 0, 10), **moves))
+    yield one('chokes', '; '.join([f'ended 0 dc 0 rows {CHOKE_STEPS + 1}'] * len(CHOKES)), SURE, *[choke(*shape) for shape in CHOKES])
+    yield one('inductors-across', '; '.join([f'ended 0 dc 0 rows {CHOKE_STEPS + 1}'] * len(ACROSS)), SURE, *[choke(*shape, ohm=0) for shape in ACROSS])
+    yield one('choke-judged', f'ended 0 dc 0 rows {CHOKE_STEPS + 1}, accepted', SURE, choke(0.5, 1.0, tolerances=[0.0] * 5))
+    yield one('choke-23', 'ended 23 dc 0 rows 1', DOUBT, choke(0.5, 1.0, itl=(10, 0, 1), ft=0.05))
+    yield one('choke-24', 'ended 24 dc 0 rows 2', DOUBT, choke(0.5, 1.0, budget=4))
+    yield one('choke-25', 'ended 25 dc 0 rows 2', DOUBT, choke(0.5, 1.0, rows=2))
+    # an infinite conductance: a short in the first step, then a current that is no number; a NaN is hidden by the last unknown, and its judge refuses
+    yield one('choke-of-0', 'ended 21 dc 0 rows 2, refused 11', DOUBT, choke(0.0, 1.0, tolerances=[1.0] * 5))
+    yield one('choke-of-nan', f'ended 0 dc 0 rows {CHOKE_STEPS + 1}, refused 11', DOUBT, choke(NAN, 1.0, tolerances=[1.0] * 5))
+    yield one('choke-of-others', '; '.join([f'ended 0 dc 0 rows {CHOKE_STEPS + 1}'] * 3), SURE, *[choke(henry, 1.0) for henry in (-1.0, INF, 1e300)])
+    # loops at DC: a source and an inductor contradict each other, and the one with the last number gives way; two inductors leave it open
+    loop = [voltage(1, 0, 0, 5.0), inductor(1, 0, 1, 1.0)], [voltage(1, 0, 1, 5.0), inductor(1, 0, 0, 1.0)], [current(0, 1, 1.0), inductor(1, 0, 0, 1.0), inductor(1, 0, 1, 1.0)]
+    yield one('inductor-loops', 'ended 0, rejected 3; ended 0, rejected 3; ended 0, accepted', DOUBT, *[job(records, sources=2, tolerances=[1e-6] * 4) for records in loop])
+    ground = dict(records=[voltage(1, 0, 1, 1.0), resistor(1, 0, 1.0), inductor(0, 0, 0, 1.0)], sources=2)
+    yield one('inductor-of-ground', 'ended 21; ended 0 dc 21 rows 4', DOUBT, job(**ground), job(**ground, **moves))
+    # what an inductor remembers is no voltage: the diode behind it is the one that is named
+    before_diode = [inductor(1, 3, 0, 1.0), voltage(1, 0, 1, 5.0), resistor(3, 2, 1000.0), diode(2, 0, 1e-12, 27.0)]
+    yield one('inductor-before-diode', 'ended 0 behind 4; ended 0 dc 0 rows 4', DOUBT, *[job(before_diode, nodes=4, sources=2, itl=(100, 0, 100), **how) for how in ({}, moves)])
+
+
+def sharing_inductors(one):
+    """Source numbers that an inductor shares, and what is told before and behind that; bytes that an inductor does not use, and kinds that are none."""
+    def numbered(s): return [voltage(1, 0, s, 1.0), record(6, 1, 0, source=s, floats=[0.0, 1.0, 1.0]), pattern(1, 0, s, 0, 1, 0.0, -1.0), vcvs(1, 0, 1, 0, s, 2.0), inductor(1, 0, s, 1.0)]
+    def refused(name, says, *sheets): return one(name, '; '.join(f'refused {k}' for k in says), DOUBT, *[job(sheet, sources=2, points=POINT) for sheet in sheets])
+    *others, coil = numbered(0)
+    v, ohm = others[0], resistor(1, 0, 1.0)
+    yield refused('inductor-shares', ['9 at 1'] * 9, *[[r, coil] for r in others], *[[coil, r] for r in others], [coil, coil])
+    yield one('inductor-alone', 'ended 0', SURE, job([v, v, numbered(1)[-1]], sources=2))
+    yield refused('inductor-shares-later', ['9 at 2', '9 at 3', '9 at 2', '9 at 1'], [v, v, coil], [coil, ohm, ohm, v], [numbered(1)[-1], coil, coil], [coil, coil, v])
+    far, beyond = resistor(2, 0, 1.0), pattern(1, 0, 0, 0, 2, 0.0, -1.0)
+    yield refused('inductor-shares-order', ['6 at 1', '7 at 1', '8 at 1', '9 at 1', '8 at 1', '9 at 0'], [coil, b'\0' + v[1:]], [coil, b'\3\1' + v[2:]], [coil, voltage(2, 0, 0, 1.0)], [coil, beyond], [coil, far, coil],
+                  [numbered(2)[-1], coil, coil])
+    unused = [1, *range(6, 10), *range(12, 16), *range(24, 40)]
+    yield refused('inductor-unused', ['7 at 0'] * len(unused), *[[coil[:at] + b'\1' + coil[at + 1:]] for at in unused])
+    yield refused('inductor-numbers', ['8 at 0', '8 at 0', '9 at 0', '9 at 0'], [inductor(2, 0, 0, 1.0)], [inductor(0, 2, 0, 1.0)], [numbered(2)[-1]], [numbered(256)[-1]])
+    yield refused('kinds', ['6 at 1'] * 5, *[[ohm, record(kind, 1, 0)] for kind in (0, 12, 13, 128, 255)])
 
 
 def heads_of_jobs():
@@ -331,6 +395,9 @@ def runs_of_spreads():
     yield one('spread-empty-sheets', '2 of 0', SURE, spreads(b'', b''))
     yield one('spread-values', f'{len(VALUES)} of 0', SURE, spreads(*[voltage(1, 0, 0, x) + resistor(1, 0, 1.0) for x in VALUES], sources=1))
     yield one('spread-largest', '256 of 6', DOUBT, spreads(*[bytes(40 * 256)] * 256))
+    short, other = b''.join(SHORT), b''.join(SHORT[:2] + [inductor(0, 1, 0, 1e-9)])
+    yield one('spread-inductors', '3 of 0', SURE, spreads(short, other, short, sources=1, unknown=2))
+    yield one('spread-inductors-sharing', '1 of 0; 1 of 6; 2 of 9', DOUBT, spreads(short, short[:-40] + bytes(40), short[:40] + 2 * short[80:], inductor(1, 0, 0, 1.0) + short[:40] + voltage(1, 0, 0, 1.0), sources=1))
     yield from judged_calls(one, good)
     refused = {
         '13': [put(spreads(good), JOBS, 0), put(spreads(good), JOBS, 257), spreads(good, unknown=2), put(spreads(good), JOBS, 2**64 - 1), spreads(good, unknown=2**64 - 1),

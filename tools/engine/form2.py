@@ -2,12 +2,12 @@
 """Stored files in form 2 (docs/FORMATS.md), from those in form 1: the same jobs, with heads that say how many words they have.
 
     form2.py            writes crates/engine_replay/data/answers2.bin and, in crates/savrunte_tool/data, front_end1.jobs (which is of form 1), front_end2.jobs, spreads2.jobs, waiting2.jobs, judged2.jobs,
-                        caught_up2.jobs, ramps2.jobs and ramp_spreads2.jobs
+                        caught_up2.jobs, ramps2.jobs, ramp_spreads2.jobs, inductors2.jobs and inductor_spreads2.jobs
     form2.py --check    says whether they are what it would write
 
 The list of answers takes the directed jobs at the front of bench/answers.bin, and of the random ones behind them the first small one of every outcome. Some heads get words more than
-any version knows, all 0, and some lose the zeros at their end: neither changes a job. The last five have what form 1 cannot ask for: the option catchup, tolerances of spreads, and both, on a diode that is held back;
-the option pattern_first, of jobs and of spreads, on patterns that start away from zero.
+any version knows, all 0, and some lose the zeros at their end: neither changes a job. The next five have what form 1 cannot ask for: the option catchup, tolerances of spreads, and both, on a diode that is held back;
+the option pattern_first, of jobs and of spreads, on patterns that start away from zero. The last two are about inductors.
 """
 import struct
 import sys
@@ -160,6 +160,25 @@ def ramp_spreads():
     return calls.judged_spreads(calls.spreads(*sheets, sources=1, points=calls.LEVEL_BYTES), [0.0] * 3, 0, 1)
 
 
+def inductors():
+    """An inductor at DC, settled and with too few passes; behind such a DC; behind half an ohm and across a source alone; with a step that is cut, and with steps that are doubled; with a source number that it shares; from ground to ground."""
+    cut = dict(rise=0.25, reltol=0.9, itl=(10, 0, 1), ft=0.5, tstop=0.25)
+    v, coil = calls.voltage(1, 0, 0, 1.0), calls.inductor(1, 0, 0, 1.0)
+    ground = [calls.voltage(1, 0, 1, 1.0), calls.resistor(1, 0, 1.0), calls.inductor(0, 0, 0, 1.0)]
+    all = [calls.job(calls.SHORT, sources=1, tolerances=[0.0] * 3), calls.job(calls.SHORT, sources=1, itl=(0, 0, 10))]
+    all += [calls.job(calls.SHORT_BESIDE, nodes=3, sources=2, itl=(0, 0, 10), transient=True, rows=9), calls.choke(0.5, 1.0, tolerances=[0.0] * 5), calls.choke(49.0, 3.0, ohm=0)]
+    all += [calls.choke(0.25, 1.0, **cut), calls.choke(0.5, 1.0, itl=(10, 5, 10), tstop=9.0), calls.job([v, v, coil], sources=1), calls.job(ground, sources=2, transient=True, rows=9)]
+    return calls.jobs(*[calls.form2(j, JOB) for j in all], form=2)
+
+
+def inductor_spreads():
+    """Spreads with two inductors each, judged: one behind the other, the first one turned round, side by side, from ground to ground, and with one number for both."""
+    first, second, turned = calls.inductor(1, 2, 0, 3.0), calls.inductor(2, 0, 1, 0.5), calls.inductor(2, 1, 0, 3.0)
+    pairs = [(first, second), (turned, second), (first, calls.inductor(1, 2, 1, 3.0)), (calls.inductor(0, 0, 0, 1.0), second), (first, calls.inductor(2, 0, 0, 0.5))]
+    ohms = [calls.current(0, 1, 1.0), calls.resistor(1, 0, 4.0), calls.resistor(2, 0, 4.0)]
+    return calls.judged_spreads(calls.spreads(*[b"".join([*ohms, *pair]) for pair in pairs], nodes=3, sources=2, unknown=3), [1e-9] * 5)
+
+
 def main():
     tool = DATA / "savrunte_tool" / "data"
     plain = front_end((tool / "front_end.jobs").read_bytes())
@@ -173,6 +192,8 @@ def main():
         tool / "caught_up2.jobs": judged(1),
         tool / "ramps2.jobs": ramps(),
         tool / "ramp_spreads2.jobs": ramp_spreads(),
+        tool / "inductors2.jobs": inductors(),
+        tool / "inductor_spreads2.jobs": inductor_spreads(),
     }
     if sys.argv[1:] == ["--check"]:
         same = all(p.exists() and p.read_bytes() == b for p, b in files.items())

@@ -54,8 +54,8 @@ def card(k, record, celsius):
         # at time 0, before its delay, a pattern is at 0
         assert x > 0.0
         return f'v{k} {p} {n} 0\n'
-    letter = {1: 'r', 2: 'i', 3: 'v', 5: 'i', 6: 'v', 8: 'c', 9: 'e', 10: 'g'}[kind]
-    controls = f' {cp} {cn}' if kind > 8 else ''
+    letter = {1: 'r', 2: 'i', 3: 'v', 5: 'i', 6: 'v', 8: 'c', 9: 'e', 10: 'g', 11: 'l'}[kind]
+    controls = f' {cp} {cn}' if kind in (9, 10) else ''
     return f'{letter}{k} {p} {n}{controls} {x!r}\n'
 
 

@@ -65,6 +65,24 @@
 //! assert!(pattern(&ramp, 0.0, -1.0, 0.0).is_nan());
 //! assert_eq!([0.0, 0.5, 1.0, 7.0].map(|t| pattern_first(&ramp, 0.0, -1.0, t)), [3.0, 3.5, 4.0, 4.0]);
 //! ```
+//!
+//! An inductor is a short at DC. Its current is its float of the memory, after the DC run and after every accepted step of a transient.
+//! Here 8 V come on in the first second, through half an ohm into half a henry:
+//!
+//! ```
+//! use savrunte::{points, transient_analysis, Lent, Options, Record};
+//!
+//! let sheet = Record::sheet(&[
+//!     Record::Vpwl { p: 1, n: 0, t_delay: 0.0, repeat: -1.0, first: 0, count: 3, source: 1 },
+//!     Record::R { p: 1, n: 2, value: 0.5 },
+//!     Record::L { p: 2, n: 0, value: 0.5, source: 0 },
+//! ]);
+//! let level = points(&[(0.0, 0.0), (1.0, 8.0), (100.0, 8.0)]);
+//! let (mut lent, mut rows) = (Lent::new(3, 2, 3), [0.0; 4 * 6]);
+//! transient_analysis(&sheet, &level, 3, 2, Options::bench(), &mut lent.buffers(), &mut rows);
+//! assert_eq!([9, 15, 21].map(|at| rows[at]), [4.0, 2.0, 1.0]); // volts across the inductor, step by step
+//! assert_eq!(lent.memory[2], 14.0); // amperes through it in the end
+//! ```
 
 mod raw;
 mod record;
@@ -78,7 +96,8 @@ pub use sound::{sound_spreads, Cause, Sound, SoundBuffers, SoundLent, SoundRepor
 pub use spreads::{spreads, ExactSum, Extreme, Outcome, Report, Spread, Spreads, SpreadsBuffers, SpreadsLent, Values};
 pub use words::{Refusal, Verdict};
 
-/// What a run is lent: the buffers of the header's `savrunte_dc`, of any length. Too short a buffer is refused by 5.
+/// What a run is lent: the buffers of the header's `savrunte_dc`, of any length. Too short a buffer is refused by 5. The memory has a float for
+/// each record: a diode's last limited voltage, an inductor's current. A run first sets those of diodes and inductors to 0.0; the others stay.
 pub struct Buffers<'a> {
     pub base: &'a mut [f64],
     pub system: &'a mut [f64],

@@ -1,6 +1,7 @@
 //! Element records of 40 bytes, as the engine reads them.
 
-/// One element, by value. Nodes count from 0, the ground; sources from 0.
+/// One element, by value. Nodes count from 0, the ground; sources from 0. Two sources may share a number, but an inductor, `L`, shares its
+/// own with no record: the later of the two is refused by [`Refusal::Source`](crate::Refusal::Source).
 #[derive(Clone, Copy, Debug, PartialEq)]
 pub enum Record {
     R { p: u16, n: u16, value: f64 },
@@ -13,6 +14,9 @@ pub enum Record {
     C { p: u16, n: u16, value: f64 },
     Vcvs { p: u16, n: u16, cp: u16, cn: u16, k: f64, source: u16 },
     Vccs { p: u16, n: u16, cp: u16, cn: u16, k: f64 },
+    /// An inductor of so many henries. At DC it is a short whose current from `p` to `n` is the unknown of its source number; in a
+    /// transient its current is in its float of the memory alone, and that unknown is 0.0.
+    L { p: u16, n: u16, value: f64, source: u16 },
 }
 
 impl Record {
@@ -30,6 +34,7 @@ impl Record {
             C { p, n, value } => laid(8, [p, n, 0, 0, 0, 0, 0], [value, 0.0, 0.0]),
             Vcvs { p, n, cp, cn, k, source } => laid(9, [p, n, cp, cn, source, 0, 0], [k, 0.0, 0.0]),
             Vccs { p, n, cp, cn, k } => laid(10, [p, n, cp, cn, 0, 0, 0], [k, 0.0, 0.0]),
+            L { p, n, value, source } => laid(11, [p, n, 0, 0, source, 0, 0], [value, 0.0, 0.0]),
         }
     }
 

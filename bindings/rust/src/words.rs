@@ -51,7 +51,7 @@ numbered! {
         Kind = 6, "a record's kind is not known";
         Unused = 7, "an unused byte of a record is not zero";
         Node = 8, "a node is not below the node count";
-        Source = 9, "a source number is not below the source count";
+        Source = 9, "a source number is not below the source count, or is shared with an inductor";
         Range = 10, "a pattern reaches past the points given";
         Number = 11, "a number is not finite, or a tolerance is below zero";
         Sine = 12, "the sine's argument is beyond 2^20 in size";

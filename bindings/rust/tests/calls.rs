@@ -67,6 +67,138 @@ fn a_charging_capacitor() {
     assert_eq!(answer, ended(Verdict::BudgetSpent, 7, 3));
 }
 
+/// Runs a transient with room for so many rows, in a memory that holds other numbers.
+fn moving(records: &[Record], points: &[u8], nodes: usize, sources: usize, options: Options, room: usize) -> (Transient, Lent, Vec<f64>) {
+    let mut lent = Lent::new(nodes, sources, records.len());
+    lent.memory.fill(0.25);
+    let mut rows = vec![0.0; room * (nodes + sources + 1)];
+    let answer = transient_analysis(&Record::sheet(records), points, nodes, sources, options, &mut lent.buffers(), &mut rows);
+    (answer, lent, rows)
+}
+
+/// At DC an inductor is a short with a current of its own, which its memory has afterwards, unless the budget ended the run. Other records' floats stay.
+#[test]
+fn an_inductor_is_a_short_at_dc() {
+    let records = [
+        Record::I { p: 0, n: 1, value: 1.0 },
+        Record::R { p: 1, n: 0, value: 5.0 },
+        Record::L { p: 1, n: 0, value: 3.0, source: 0 },
+    ];
+    let bench = Options::bench();
+    for (options, verdict, passes, current) in [
+        (bench, Verdict::Settled, 2, 1.0),
+        (Options { itl1: 0, ..bench }, Verdict::PassesUsedUp, 1, 1.0),
+        (Options { budget: 1, ..bench }, Verdict::BudgetSpent, 1, 0.0),
+    ] {
+        let mut lent = Lent::new(2, 1, 3);
+        lent.memory.fill(0.25);
+        let answer = dc_operating_point(&Record::sheet(&records), &[], 2, 1, options, &mut lent.buffers());
+        assert_eq!(answer, ended(verdict, passes));
+        assert_eq!(bits(&lent.vector), bits(&[0.0, 0.0, 1.0]));
+        assert_eq!(bits(&lent.memory), bits(&[0.25, 0.25, current]));
+    }
+    // from ground to ground its row is empty: it is no number here, and the memory has it so
+    let ground = [
+        Record::V { p: 1, n: 0, value: 1.0, source: 1 },
+        Record::R { p: 1, n: 0, value: 1.0 },
+        Record::L { p: 0, n: 0, value: 1.0, source: 0 },
+    ];
+    let (answer, lent) = dc(&ground, 2, 2, bench);
+    assert!(matches!(answer, Dc::Ended { verdict: Verdict::ConvergenceError, .. }));
+    assert!(lent.memory[2].is_nan());
+}
+
+/// 8 V come on in a ramp, through half an ohm, into so many henries. The source has the last number, so that nothing of the inductor is hidden there.
+fn choke(henries: f64) -> [Record; 3] {
+    [
+        Record::Vpwl { p: 1, n: 0, t_delay: 0.0, repeat: -1.0, first: 0, count: 3, source: 1 },
+        Record::R { p: 1, n: 2, value: 0.5 },
+        Record::L { p: 2, n: 0, value: henries, source: 0 },
+    ]
+}
+
+fn ramp(time: f64) -> Vec<u8> {
+    points(&[(0.0, 0.0), (time, 8.0), (100.0, 8.0)])
+}
+
+/// Step by step the current in the memory is the one through the resistor; the inductor's own unknown is 0.0 after the first row.
+#[test]
+fn an_inductor_keeps_its_current() {
+    let bench = Options::bench();
+    let of = |verdict, passes, rows, end| Transient::Ended { verdict, dc_verdict: Verdict::Settled, passes, rows, end, behind: None };
+    let (answer, lent, rows) = moving(&choke(0.5), &ramp(1.0), 3, 2, bench, 4);
+    assert_eq!(answer, of(Verdict::Settled, 7, 4, 2.0));
+    let expected = [
+        [0.0, 0.0, 0.0, 0.0, 0.0, -0.0],
+        [1.0, 0.0, 8.0, 4.0, 0.0, -8.0],
+        [2.0, 0.0, 8.0, 2.0, 0.0, -12.0],
+        [2.0, 0.0, 8.0, 1.0, 0.0, -14.0],
+    ];
+    assert_eq!(bits(&rows), bits(&expected.concat()));
+    assert_eq!(bits(&lent.memory), bits(&[0.25, 0.25, 14.0]));
+
+    // with the step over the henries as the conductance itself, and product and sum rounded each for itself
+    let (_, lent, rows) = moving(&choke(49.0), &ramp(3.0), 3, 2, Options { tstep: 3.0, tstop: 3.0, ..bench }, 3);
+    let g = 3.0 / 49.0;
+    let first = g * rows[6 + 3] + 0.0;
+    assert_eq!(lent.memory[2].to_bits(), (g * rows[12 + 3] + first).to_bits());
+}
+
+/// The memory moves where a step is accepted, also where its row has no room, and by the step as it was solved. A step that is cut, or does not end, moves nothing.
+#[test]
+fn an_inductor_waits_for_the_step() {
+    let bench = Options::bench();
+    let cut = Options { reltol: 0.9, itl4: 1, ft: 0.5, tstop: 0.25, ..bench };
+    let cases = [
+        (0.5, 1.0, bench, 1, Verdict::NoRoom, 8.0),
+        (0.5, 1.0, bench, 2, Verdict::NoRoom, 12.0),
+        (0.5, 1.0, Options { budget: 2, ..bench }, 4, Verdict::BudgetSpent, 0.0),
+        (0.5, 1.0, Options { budget: 3, ..bench }, 4, Verdict::BudgetSpent, 8.0),
+        (0.5, 1.0, Options { budget: 6, ..bench }, 4, Verdict::BudgetSpent, 12.0),
+        (0.5, 1.0, Options { itl4: 1, ft: 0.05, ..bench }, 4, Verdict::StepTooSmall, 0.0),
+        (0.5, 1.0, Options { itl3: 5, rmax: 5.0, tstop: 1.0, ..bench }, 4, Verdict::Settled, 8.0), // not by the doubled step
+        (0.25, 0.25, cut, 4, Verdict::Settled, 8.0),
+    ];
+    for (henries, time, options, room, verdict, current) in cases {
+        let (answer, lent, _) = moving(&choke(henries), &ramp(time), 3, 2, options, room);
+        assert!(matches!(answer, Transient::Ended { verdict: v, .. } if v == verdict), "{answer:?}, not {verdict:?}");
+        assert_eq!(bits(&lent.memory), bits(&[0.25, 0.25, current]), "{answer:?}");
+    }
+}
+
+/// Of two records with one source number, of which one is an inductor, the later is refused; without an inductor they may share it.
+#[test]
+fn an_inductor_shares_its_number_with_no_record() {
+    let with = |source: u16| {
+        [
+            Record::V { p: 1, n: 0, value: 1.0, source },
+            Record::Vsin { p: 1, n: 0, vo: 0.0, va: 1.0, freq: 1.0, source },
+            Record::Vpwl { p: 1, n: 0, t_delay: 0.0, repeat: -1.0, first: 0, count: 0, source },
+            Record::Vcvs { p: 1, n: 0, cp: 1, cn: 0, k: 2.0, source },
+            Record::L { p: 1, n: 0, value: 1.0, source },
+        ]
+    };
+    let place = |records: &[Record]| match dc(records, 2, 2, Options::bench()).0 {
+        Dc::Refused { refusal: Refusal::Source, place } => Some(place),
+        Dc::Refused { refusal, .. } => panic!("{refusal}"),
+        Dc::Ended { .. } => None,
+    };
+    let coil = 4;
+    for a in 0..5 {
+        for b in 0..5 {
+            let shared = if a == coil || b == coil { Some(1) } else { None };
+            assert_eq!(place(&[with(0)[a], with(0)[b]]), shared);
+            assert_eq!(place(&[with(0)[a], with(1)[b]]), None);
+        }
+    }
+    let [v, .., l] = with(0);
+    let resistor = Record::R { p: 1, n: 0, value: 1.0 };
+    assert_eq!(place(&[v, v, with(1)[coil]]), None);
+    assert_eq!(place(&[v, v, l]), Some(2));
+    assert_eq!(place(&[l, resistor, resistor, v]), Some(3));
+    assert_eq!(place(&[with(2)[coil], l, l]), Some(0)); // not below the source count
+}
+
 /// A diode behind 1 kOhm.
 fn with_diode(volt: f64) -> [Record; 3] {
     [
@@ -163,7 +295,7 @@ fn wrong_calls_change_nothing() {
     let mut unused = sheet.clone();
     unused[80 + 39] = 1; // record 2
     let mut kind = sheet.clone();
-    kind[0] = 11;
+    kind[0] = 13;
     let mut source = sheet.clone();
     source[10] = 1;
     let wrong: Vec<(&[u8], &[u8], usize, usize, Options, Refusal, usize)> = vec![
@@ -236,7 +368,7 @@ fn a_longer_buffer_keeps_its_rest() {
     for part in [&lent.base, &lent.system, &lent.elimination, &lent.vector, &lent.memory] {
         assert_eq!(part[part.len() - 2..], [0.125, 0.125]);
     }
-    // no diode in the sheet: the memory is untouched
+    // neither diode nor inductor in the sheet: the memory is untouched
     assert_eq!(lent.memory[..3], [0.0; 3]);
 }
 
