@@ -6,3 +6,4 @@ pub mod NoSine
 pub mod Demand
 pub mod Numbers
 pub mod CaughtUp
+pub mod Inductors

@@ -1,19 +1,19 @@
 -- What is proved of the storage elements: of the memory the stamps look at inductors' floats alone, which no diode changes; an inductor takes its formula's current, and every other float stays;
 -- without inductors all is as it was before there were any. Clients cite all that is `pub`. Assumes nothing.
-use Prim.Native.Nat.{ℕ, zero, suc, _<_}
-use mathlib.Core.Path.{_≡_, refl, sym, ap, _∙_}
-use mathlib.Core.Logic.{_⊎_, inl, inr, ⊎-elim}
-use mathlib.Core.Bool.{Bool, true, false, cond, not, _||_, false≢true}
+use Prim.Native.Nat.{ℕ, zero, suc, _<_, _≤_}
+use mathlib.Core.Path.{_≡_, refl, sym, ap, subst, _∙_}
+use mathlib.Core.Bool.{Bool, true, false, cond, _||_, false≢true}
 use mathlib.Core.List.{List, [], _++_}
-use borrow.Author.Tests.{eqb-true, eqb-false, ne-eqb}
+use native.Mathlib.Nat.{le-refl, not-suc-le-zero}
+use native.Mathlib.Omega.{arith}
+use borrow.Author.Tests.{eqb-true, eqb-false}
 use lib.Dec.{eqb}
 use lib.ListN.{length, getD, set, length-set}
 use lib.Seq.{getD-set-other, getD-set-same}
 use lib.Ieee.{Float, nan}
-use Rattle.numbers.specs.Kinds.{diode, inductor}
-use Rattle.options.specs.declared.Options.{Options}
+use Rattle.numbers.specs.Kinds.{inductor}
 use Rattle.loops.specs.Loop.{turns}
-use Rattle.loops.specs.laws.Loop.{turns-inv, turns-ext}
+use Rattle.loops.specs.laws.Loop.{turns-inv}
 use Rattle.sheet.specs.declared.NodeId.{NodeId}
 use Rattle.sheet.specs.declared.SourceId.{SourceId}
 use Rattle.sheet.specs.declared.Element.{Element}
@@ -26,12 +26,18 @@ use Rattle.sheet.specs.laws.Kind.{kind-at}
 use Rattle.sheet.specs.Check.{recordsOf}
 use Rattle.stamps.specs.Write.{Write, stamped}
 use Rattle.groups.specs.declared.Pass.{Pass}
-use Rattle.groups.specs.Records.{elementAt, onRecord, unless, writesOf}
-use Rattle.groups.specs.Storage.{storageWrites, storageOf, currentIn, withCurrent, withCurrentAt, takenOf, unstored, storedAt, inductorAmong}
-use Rattle.groups.specs.Sources.{Driven, drivenOf, independentOf}
+use Rattle.stamps.specs.Kinds.{capacitorWrites}
+use Rattle.models.specs.Capacitor.{companionOf}
+use Rattle.groups.specs.Records.{elementAt, onRecord, writesOf, across}
+use Rattle.groups.specs.Plain.{dependentOf}
+use Rattle.groups.specs.Storage.{capacitorIn, storageWrites, storageOf, currentIn, withCurrent, withCurrentAt, takenOf, unstored, storedAt, inductorAmong}
 use Rattle.groups.specs.Stamping.{completed, linearOf}
 use Rattle.groups.specs.laws.Passing.{apart, passed-by}
 use Rattle.groups.specs.laws.Quiet.{silent-storage, quiet-currents}
+
+either-same : {A : Type 0} {x : A} (b : Bool) → cond b x x ≡ x
+either-same true = refl
+either-same false = refl
 
 -- a pass may go by the kind byte
 pub stored-same : (p : Pass) (x y : List Float) (sheet : List ℕ) (i : ℕ) → onRecord (storageWrites p x y i) [] (storedAt (p .transient) sheet i) ≡ onRecord (storageWrites p x y i) [] (elementAt sheet i)
@@ -149,3 +155,95 @@ module _ (p : Pass) (sheet : List ℕ) (v : List Float) where
   pub nothing-taken : (y : List Float) → inductorAmong sheet (recordsOf sheet) ≡ false → takenOf p sheet v y ≡ y
   unfolding takenOf
   nothing-taken y h = none-taken y (recordsOf sheet) h
+
+  -- an inductor has taken its current, by the formula of a step or as the unknown of its row
+  module _ (i : ℕ) (a b : NodeId) (henries : Float) (s : SourceId) (here : elementAt sheet i ≡ Good (L a b henries s)) (y : List Float) where
+    before-it : (k : ℕ) → k ≤ i → getD (turns k (withCurrentAt p sheet v) y) i nan ≡ getD y i nan
+    before-it zero h = refl
+    before-it (suc k) h = at-own k (turns k (withCurrentAt p sheet v) y) .elsewhere i (λ q. omega (arith, h, q)) ∙ before-it k (omega (arith, h))
+
+    length-kept : (k : ℕ) → length (turns k (withCurrentAt p sheet v) y) ≡ length y
+    length-kept k = turns-inv (λ (z : List Float). length z ≡ length y) (withCurrentAt p sheet v) k y refl (λ i l z h. at-own i z .long ∙ h)
+
+    at-it : i < length y → getD (withCurrentAt p sheet v i (turns i (withCurrentAt p sheet v) y)) i nan ≡ currentIn p v (a .0) (b .0) henries s (getD y i nan)
+    unfolding withCurrent
+    at-it l = rw (here, getD-set-same (turns i (withCurrentAt p sheet v) y) i (currentIn p v (a .0) (b .0) henries s (getD (turns i (withCurrentAt p sheet v) y) i nan)) nan (rw (length-kept i) l)) (ap (currentIn p v (a .0) (b .0) henries s) (before-it i (le-refl i)))
+
+    after-it : i < length y → (k : ℕ) → i < k → getD (turns k (withCurrentAt p sheet v) y) i nan ≡ currentIn p v (a .0) (b .0) henries s (getD y i nan)
+    after-it l zero h = absurd (not-suc-le-zero h)
+    after-it l (suc k) h = by-place (after-it l k) (eqb i k) refl
+      where
+        by-place : (i < k → getD (turns k (withCurrentAt p sheet v) y) i nan ≡ currentIn p v (a .0) (b .0) henries s (getD y i nan))
+            → (q : Bool) → eqb i k ≡ q → getD (turns (suc k) (withCurrentAt p sheet v) y) i nan ≡ currentIn p v (a .0) (b .0) henries s (getD y i nan)
+        by-place more true e = subst (λ (n : ℕ). getD (withCurrentAt p sheet v n (turns n (withCurrentAt p sheet v) y)) i nan ≡ currentIn p v (a .0) (b .0) henries s (getD y i nan)) (eqb-true i k e) (at-it l)
+        by-place more false e =
+            let n = eqb-false i k e in
+            at-own k (turns k (withCurrentAt p sheet v) y) .elsewhere i n ∙ more (omega (arith, h, n))
+
+    pub taken-here : i < recordsOf sheet → i < length y → getD (takenOf p sheet v y) i nan ≡ currentIn p v (a .0) (b .0) henries s (getD y i nan)
+    unfolding takenOf
+    taken-here h l = after-it l (recordsOf sheet) h
+
+-- ---- a sheet without inductors
+
+-- what a storage element wrote before there were inductors
+unfoldable pub formerWrites : ℕ → List Float → Float → Element → List Write
+formerWrites n x step (R a b z) = []
+formerWrites n x step (I a b z) = []
+formerWrites n x step («V» a b z s) = []
+formerWrites n x step (D a b z w) = []
+formerWrites n x step (Isin a b z w f) = []
+formerWrites n x step (Vsin a b z w f s) = []
+formerWrites n x step (Vpwl a b z w f k s) = []
+formerWrites n x step (C a b value) =
+    let c = companionOf value (across x (a .0) (b .0)) step in
+    capacitorWrites n (a .0) (b .0) (c .g) (c .i)
+formerWrites n x step (Vcvs a b ca cb k s) = []
+formerWrites n x step (Vccs a b ca cb k) = []
+formerWrites n x step (L a b z s) = []
+
+module _ (p : Pass) (x y : List Float) (sheet : List ℕ) where
+  former-element : (i : ℕ) (e : Element) → (kindOf e ≡ inductor → ⊥) → storageWrites p x y i e ≡ cond (p .transient) (formerWrites (p .order) x (p .step) e) []
+  unfolding storageWrites formerWrites capacitorIn kindOf
+  former-element i (R a b v) h = sym (either-same (p .transient))
+  former-element i (I a b v) h = sym (either-same (p .transient))
+  former-element i («V» a b v s) h = sym (either-same (p .transient))
+  former-element i (D a b v w) h = sym (either-same (p .transient))
+  former-element i (Isin a b v w f) h = sym (either-same (p .transient))
+  former-element i (Vsin a b v w f s) h = sym (either-same (p .transient))
+  former-element i (Vpwl a b v w f k s) h = sym (either-same (p .transient))
+  former-element i (C a b v) h = refl
+  former-element i (Vcvs a b ca cb k s) h = sym (either-same (p .transient))
+  former-element i (Vccs a b ca cb k) h = sym (either-same (p .transient))
+  former-element i (L a b v s) h = absurd (h refl)
+
+  former-record : (i : ℕ) → (kindAt sheet i ≡ inductor → ⊥) → (d : Decoded) → elementAt sheet i ≡ d → onRecord (storageWrites p x y i) [] d ≡ cond (p .transient) (onRecord (formerWrites (p .order) x (p .step)) [] d) []
+  former-record i h (Good e) g = former-element i e (λ q. h (kind-at sheet i e g ∙ q))
+  former-record i h (Refused k) g = sym (either-same (p .transient))
+
+  former-records : (k : ℕ) → inductorAmong sheet k ≡ false → writesOf (storageWrites p x y) sheet k ≡ cond (p .transient) (writesOf (λ _. formerWrites (p .order) x (p .step)) sheet k) []
+  unfolding writesOf inductorAmong
+  former-records zero h = sym (either-same (p .transient))
+  former-records (suc k) h = by-rest (former-records k) (inductorAmong sheet k) refl h
+    where
+      joins : (t : Bool) (us ws : List Write) → cond t us [] ++ cond t ws [] ≡ cond t (us ++ ws) []
+      joins true us ws = refl
+      joins false us ws = refl
+
+      by-rest : (inductorAmong sheet k ≡ false → writesOf (storageWrites p x y) sheet k ≡ cond (p .transient) (writesOf (λ _. formerWrites (p .order) x (p .step)) sheet k) [])
+          → (b : Bool) → inductorAmong sheet k ≡ b → (b || eqb (kindAt sheet k) inductor) ≡ false
+          → writesOf (storageWrites p x y) sheet k ++ onRecord (storageWrites p x y k) [] (elementAt sheet k)
+          ≡ cond (p .transient) (writesOf (λ _. formerWrites (p .order) x (p .step)) sheet k ++ onRecord (formerWrites (p .order) x (p .step)) [] (elementAt sheet k)) []
+      by-rest before true e q = absurd (false≢true (sym q))
+      by-rest before false e q = rw (before e, former-record k (eqb-false (kindAt sheet k) inductor q) (elementAt sheet k) refl) (joins (p .transient) _ _)
+
+  -- without inductors the stamps after the independent sources are what they were: dependent sources, and in the transient capacitors, word for word the former definition; the memory has no share in them
+  pub as-before : inductorAmong sheet (recordsOf sheet) ≡ false → (m : List Float)
+      → completed p sheet x y m
+      ≡ (let d = dependentOf (p .nodes) (p .order) sheet m in cond (p .transient) (stamped (p .order) (writesOf (λ _. formerWrites (p .order) x (p .step)) sheet (recordsOf sheet)) d) d)
+  unfolding completed storageOf stamped
+  as-before h m = rw (former-records (recordsOf sheet) h) (out (p .transient) (writesOf (λ _. formerWrites (p .order) x (p .step)) sheet (recordsOf sheet)) (dependentOf (p .nodes) (p .order) sheet m))
+    where
+      out : (t : Bool) (ws : List Write) (d : List Float) → stamped (p .order) (cond t ws []) d ≡ cond t (stamped (p .order) ws d) d
+      out true ws d = refl
+      out false ws d = refl
