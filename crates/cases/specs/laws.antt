@@ -2,3 +2,5 @@
 pub mod Cases
 pub mod Lie
 pub mod Ramp
+pub mod Inductor
+pub mod Runs

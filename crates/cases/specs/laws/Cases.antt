@@ -19,16 +19,19 @@ use Rattle.sheet.specs.Check as sheet
 use Rattle.sheet.specs.Range as range
 use Rattle.sheet.specs.Record as bytes
 use Rattle.sheet.specs.Row as row
+use Rattle.sheet.specs.Sharing as sharing
 use Rattle.stamps.specs.Kinds as kinds
 use Rattle.stamps.specs.Write as write
 use Rattle.groups.specs.Diodes as diodes
 use Rattle.groups.specs.Plain as plain
+use Rattle.groups.specs.Storage as storage
 use Rattle.groups.specs.Records as records
 use Rattle.groups.specs.Sources as sources
 use Rattle.groups.specs.Stamping as stamping
 use Rattle.models.specs.declared.capacitor.Companion.{Companion}
 use Rattle.models.specs.declared.vpwl.Point.{Point}
 use Rattle.models.specs.Capacitor as capacitor
+use Rattle.models.specs.Inductor as inductor
 use Rattle.models.specs.Vpwl as vpwl
 use Rattle.solve.specs.Solve as solve
 use Rattle.convergence.specs.Convergence as convergence
@@ -62,14 +65,14 @@ record-of kind a b s x = kind ∷ 0 ∷ low 2 a ++ (low 2 b ++ (low 4 0 ++ (low 
 abbrev pub resistor : ℕ → ℕ → Float → List ℕ
 resistor a b x = record-of kind.resistor a b 0 x
 
-abbrev current : ℕ → ℕ → Float → List ℕ
+abbrev pub current : ℕ → ℕ → Float → List ℕ
 current a b x = record-of kind.current a b 0 x
 
 abbrev pub voltage : ℕ → ℕ → Float → ℕ → List ℕ
 voltage a b x s = record-of kind.voltage a b s x
 
-abbrev storage : ℕ → ℕ → Float → List ℕ
-storage a b x = record-of kind.capacitor a b 0 x
+abbrev capacitance : ℕ → ℕ → Float → List ℕ
+capacitance a b x = record-of kind.capacitor a b 0 x
 
 -- ---- runs
 
@@ -171,7 +174,7 @@ cases =
     -- i: g 2, i 6
     ∷ case (companion (capacitor.companionOf one three half)) (bits (two ∷ six ∷ []))
     -- j: node 1 is 1, 0.5, 0.75, 0.875 at times 0, 1, 2, 2; eight passes
-    ∷ case (transient 10 2 0 (resistor 1 0 one ++ (storage 1 0 one ++ current 0 1 one)))
+    ∷ case (transient 10 2 0 (resistor 1 0 one ++ (capacitance 1 0 one ++ current 0 1 one)))
     (0 ∷ 0 ∷ 8 ∷ 4 ∷ bits (nought ∷ nought ∷ one ∷ one ∷ nought ∷ half ∷ two ∷ nought ∷ ofBits binary64 0x3FE8000000000000 ∷ two ∷ nought ∷ ofBits binary64 0x3FEC000000000000 ∷ []))
     -- k: accepted; row 1; accepted
     ∷ case onDivider (0 ∷ 4 ∷ 0 ∷ 1 ∷ 0 ∷ 4 ∷ [])
@@ -181,5 +184,5 @@ cases =
 
 -- every case's answer is the document's
 answers : all cases ≡ true
-unfolding floats.absoluteOf le.le32 le.le64 le.floatAt loop.copied loop.rowAt checks.badOrder checks.badCounts checks.badRoom checks.sizesRefusal checks.checkedOf sheet.checkFrom sheet.badSheet sheet.badPoints range.nodesOf range.sourcesOf range.pointsOf range.nodesFit range.sourcesFit range.pointsFit range.elementFault bytes.recordAt bytes.elementOf bytes.usesOf bytes.zeros bytes.restZero bytes.decodeOf row.rowOf kinds.currentWrites kinds.conductanceWrites kinds.voltageWrites kinds.vcvsWrites kinds.vccsWrites kinds.capacitorWrites kinds.diodeWrites write.written write.stamped diodes.biased diodes.biasedAt diodes.diodesOf plain.baseWrites plain.dependentWrites plain.storageWrites plain.basedOn plain.dependentOf plain.storageOf records.writesOf sources.driven sources.drivenAt sources.independentOf stamping.baseOf stamping.completed stamping.linearOf stamping.stampOf capacitor.companionOf vpwl.lastOf vpwl.between vpwl.orZero vpwl.levelOn vpwl.levelAt vpwl.patternAt solve.indexOfNextAbs solve.swapped solve.lessScaled solve.reduced solve.cleared solve.column solve.eliminated solve.dot solve.unknown solve.lastUnknown solve.substituted solve.solution convergence.limit convergence.place convergence.checked convergence.convergenceOf control.waited control.dcOver control.dcAfter control.moved control.eased control.shortened control.stepAfter counters.next counters.verdictOf counters.dcVerdictOf machine.compared machine.tried machine.writtenBy machine.landed machine.dcPass machine.stepPass machine.pass machine.runFor attempt.attemptOf begin.forgotten engine.runOf engine.endingOf engine.refusedOf work.endOf exact.units judge.total judge.residual judge.named judge.judgeRefusal judge.judgeOf Ieee.ofBits Ieee.toBits Ieee.add Ieee.sub Ieee.mul Ieee.div Ieee.rem Ieee.lt Ieee.le Ieee.eq Ieee.isNan
+unfolding floats.absoluteOf le.le32 le.le64 le.floatAt loop.copied loop.rowAt checks.badOrder checks.badCounts checks.badRoom checks.sizesRefusal checks.checkedOf sharing.shares sharing.noneShares sheet.checkFrom sheet.badSheet sheet.badPoints range.nodesOf range.sourcesOf range.pointsOf range.nodesFit range.sourcesFit range.pointsFit range.elementFault bytes.recordAt bytes.elementOf bytes.usesOf bytes.zeros bytes.restZero bytes.decodeOf row.rowOf kinds.currentWrites kinds.conductanceWrites kinds.voltageWrites kinds.vcvsWrites kinds.vccsWrites kinds.capacitorWrites kinds.inductorWrites kinds.diodeWrites write.written write.stamped diodes.biased diodes.biasedAt diodes.diodesOf plain.baseWrites plain.dependentWrites plain.basedOn plain.dependentOf storage.capacitorIn storage.inductorIn storage.storageWrites storage.storageOf storage.currentIn storage.withCurrent storage.takenOf records.writesOf sources.driven sources.drivenAt sources.independentOf stamping.baseOf stamping.completed stamping.linearOf stamping.stampOf capacitor.companionOf inductor.conductanceOf inductor.currentAfter vpwl.lastOf vpwl.between vpwl.orZero vpwl.levelOn vpwl.levelAt vpwl.patternAt solve.indexOfNextAbs solve.swapped solve.lessScaled solve.reduced solve.cleared solve.column solve.eliminated solve.dot solve.unknown solve.lastUnknown solve.substituted solve.solution convergence.limit convergence.place convergence.checked convergence.convergenceOf control.waited control.dcOver control.dcAfter control.moved control.eased control.shortened control.stepAfter counters.next counters.verdictOf counters.dcVerdictOf machine.compared machine.tried machine.takes machine.took machine.writtenBy machine.landed machine.dcPass machine.stepPass machine.pass machine.runFor attempt.attemptOf begin.forgotten engine.runOf engine.endingOf engine.refusedOf work.endOf exact.units judge.total judge.residual judge.named judge.judgeRefusal judge.judgeOf Ieee.ofBits Ieee.toBits Ieee.add Ieee.sub Ieee.mul Ieee.div Ieee.rem Ieee.lt Ieee.le Ieee.eq Ieee.isNan
 answers = refl

@@ -24,10 +24,12 @@ use Rattle.sheet.specs.Check as sheet
 use Rattle.sheet.specs.Range as range
 use Rattle.sheet.specs.Record as bytes
 use Rattle.sheet.specs.Row as row
+use Rattle.sheet.specs.Sharing as sharing
 use Rattle.stamps.specs.Kinds as kinds
 use Rattle.stamps.specs.Write as write
 use Rattle.groups.specs.Diodes as diodes
 use Rattle.groups.specs.Plain as plain
+use Rattle.groups.specs.Storage as storage
 use Rattle.groups.specs.Records as records
 use Rattle.groups.specs.Sources as sources
 use Rattle.groups.specs.Stamping as stamping
@@ -92,5 +94,5 @@ cases =
     ∷ []
 
 answers : all cases ≡ true
-unfolding floats.absoluteOf le.le32 le.le64 le.floatAt loop.copied checks.badOrder checks.badCounts checks.badRoom checks.sizesRefusal checks.checkedOf sheet.checkFrom sheet.badSheet sheet.badPoints range.nodesOf range.sourcesOf range.pointsOf range.nodesFit range.sourcesFit range.pointsFit range.elementFault bytes.recordAt bytes.elementOf bytes.usesOf bytes.zeros bytes.restZero bytes.decodeOf row.rowOf kinds.currentWrites kinds.conductanceWrites kinds.voltageWrites kinds.diodeWrites write.written write.stamped diodes.biased diodes.biasedAt diodes.diodesOf plain.baseWrites plain.dependentWrites plain.basedOn plain.dependentOf records.writesOf records.recordIn sources.driven sources.drivenAt sources.independentOf stamping.baseOf stamping.completed stamping.linearOf stamping.stampOf diode.thermal diode.critical diode.limited diode.floored diode.modelAt diode.linearized reduction.nearestOf reduction.leftOf reduction.belowOf words.horner words.packed words.rounded exp.fixedExp exp.expSize exp.expOf ln.lnWord ln.zWord ln.lnSize ln.lnAnswer ln.lnPositive ln.lnOf solve.indexOfNextAbs solve.swapped solve.lessScaled solve.reduced solve.cleared solve.column solve.eliminated solve.dot solve.unknown solve.lastUnknown solve.substituted solve.solution convergence.limit convergence.place convergence.checked convergence.convergenceOf behind.caughtUp behind.diodeBehind behind.behindAt behind.firstFrom behind.firstIn behind.behindNumber control.waited control.dcOver control.dcAfter counters.next counters.verdictOf counters.dcVerdictOf machine.compared machine.tried machine.writtenBy machine.dcPass machine.pass machine.runFor attempt.attemptOf begin.forgotten engine.runOf engine.endingOf work.endOf Ieee.ofBits Ieee.toBits Ieee.add Ieee.sub Ieee.mul Ieee.div Ieee.lt Ieee.le Ieee.eq Ieee.isNan leadingZeros
+unfolding floats.absoluteOf le.le32 le.le64 le.floatAt loop.copied checks.badOrder checks.badCounts checks.badRoom checks.sizesRefusal checks.checkedOf sharing.shares sharing.noneShares sheet.checkFrom sheet.badSheet sheet.badPoints range.nodesOf range.sourcesOf range.pointsOf range.nodesFit range.sourcesFit range.pointsFit range.elementFault bytes.recordAt bytes.elementOf bytes.usesOf bytes.zeros bytes.restZero bytes.decodeOf row.rowOf kinds.currentWrites kinds.conductanceWrites kinds.voltageWrites kinds.diodeWrites write.written write.stamped diodes.biased diodes.biasedAt diodes.diodesOf plain.baseWrites plain.dependentWrites plain.basedOn plain.dependentOf storage.capacitorIn storage.inductorIn storage.storageWrites storage.storageOf storage.currentIn storage.withCurrent storage.takenOf records.writesOf records.recordIn sources.driven sources.drivenAt sources.independentOf stamping.baseOf stamping.completed stamping.linearOf stamping.stampOf diode.thermal diode.critical diode.limited diode.floored diode.modelAt diode.linearized reduction.nearestOf reduction.leftOf reduction.belowOf words.horner words.packed words.rounded exp.fixedExp exp.expSize exp.expOf ln.lnWord ln.zWord ln.lnSize ln.lnAnswer ln.lnPositive ln.lnOf solve.indexOfNextAbs solve.swapped solve.lessScaled solve.reduced solve.cleared solve.column solve.eliminated solve.dot solve.unknown solve.lastUnknown solve.substituted solve.solution convergence.limit convergence.place convergence.checked convergence.convergenceOf behind.caughtUp behind.diodeBehind behind.behindAt behind.firstFrom behind.firstIn behind.behindNumber control.waited control.dcOver control.dcAfter counters.next counters.verdictOf counters.dcVerdictOf machine.compared machine.tried machine.takes machine.took machine.writtenBy machine.dcPass machine.pass machine.runFor attempt.attemptOf begin.forgotten engine.runOf engine.endingOf work.endOf Ieee.ofBits Ieee.toBits Ieee.add Ieee.sub Ieee.mul Ieee.div Ieee.lt Ieee.le Ieee.eq Ieee.isNan leadingZeros
 answers = refl
