@@ -1,5 +1,5 @@
 -- The run as a machine of passes. `f` stamps and solves: it is the machine's one parameter. A pass leaves an ended run alone, and the run of a budget
--- is so many passes; 24 is not in the machine, but how counters read that are still going when the budget ends (`verdictOf`). A coil's current moves only
+-- is so many passes; 24 is not in the machine, but how counters read that are still going when the budget ends (`verdictOf`). An inductor's current moves only
 -- where a vector is taken (`takes`): where DC is over by a solved pass, and where a step is accepted.
 use Prim.Native.Nat.{ℕ, zero, suc, _+_, _*_, _/_}
 use mathlib.Core.Bool.{Bool, true, false, cond, not, _&&_}
@@ -63,7 +63,7 @@ takes j c r =
     (solved r && not (eqb (dcAfter (j .options) (j .transient) r c .phase) dcPhase))
     (accepts r)
 
--- the attempt with its report, and where its vector is taken the coils have taken their currents
+-- the attempt with its report, and where its vector is taken the inductors have taken their currents
 unfoldable pub took : Attempt → Job → Counters → List Float → Buffers → Tried
 took f j c accepted x =
     let t = tried f j c accepted x in

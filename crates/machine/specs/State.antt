@@ -13,7 +13,7 @@ pub record Buffers : Type 0 where
   pub system : List Float
   -- the last solved vector
   pub vector : List Float
-  -- each diode's last limited voltage, and each coil's last accepted current
+  -- each diode's last limited voltage, and each inductor's last accepted current
   pub memory : List Float
   pub rows : List Float
 
@@ -44,7 +44,7 @@ pub record Attempted : Type 0 where
   pub memory : List Float
   -- the first diode that is then behind: 0 for none, else 1 and its record's place
   pub behind : ℕ
-  -- the memory if this vector is taken: each coil has then taken its new current
+  -- the memory if this vector is taken: each inductor has then taken its new current
   pub taken : List Float
 
 -- of stamping and solving the machine knows no more than this: what it makes of the counters, the accepted vector and the buffers

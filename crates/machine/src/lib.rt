@@ -53,7 +53,7 @@ pub fn accepts(r: Report) -> bool
     }
 }
 
-// Whether the vector of a pass is taken, so that each coil takes its new current: DC's where DC is over by a solved pass, a step's where it is accepted.
+// Whether the vector of a pass is taken, so that each inductor takes its new current: DC's where DC is over by a solved pass, a step's where it is accepted.
 pub fn takes(j: Job, c: Counters, r: Report) -> bool
     ensures { λ b. ⌜ b ≡ takesOf j c r ⌝ }
 {

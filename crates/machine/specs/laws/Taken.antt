@@ -1,4 +1,4 @@
--- Where the coils take their currents, for every stamping and solving f: in the pass that ends DC with 0, 20 or 21 and in a step that is accepted, and nowhere else. The memory is then what the attempt has for `taken`,
+-- Where the inductors take their currents, for every stamping and solving f: in the pass that ends DC with 0, 20 or 21 and in a step that is accepted, and nowhere else. The memory is then what the attempt has for `taken`,
 -- at the counters, the accepted vector and the buffers with which the pass began: so it is the step before it is doubled. Clients cite all that is `pub`. Assumes nothing.
 use Prim.Native.Nat.{ℕ, _+_, _/_, _≤_}
 use mathlib.Core.Path.{_≡_, refl, subst, sym, _∙_}
@@ -91,7 +91,7 @@ module _ (f : Attempt) (j : Job) (s : State) where
       go true e = subst P (sym (by-takes true e)) q
       go false e = subst P (sym (by-takes false e)) p
 
-  -- where there is nothing to take, as in a circuit without coils, a pass is as it was tried
+  -- where there is nothing to take, as in a circuit without inductors, a pass is as it was tried
   pub nothing-taken : attempted .taken ≡ attempted .memory → triedBy f j s ≡ tried f j (s .counters) (s .accepted) (s .buffers)
   unfolding took tried compared
   nothing-taken e = rw (e, either-same)
@@ -117,7 +117,7 @@ module _ (f : Attempt) (j : Job) (s : State) where
     pub rejected-stays : accepts (triedBy f j s .report) ≡ false → pass f j s .buffers .memory ≡ attempted .memory
     rejected-stays = by-accepts false
 
-    -- a step that is accepted leaves each coil its new current, also where there is then no room for a row (25)
+    -- a step that is accepted leaves each inductor its new current, also where there is then no room for a row (25)
     pub accepted-takes : accepts (triedBy f j s .report) ≡ true → pass f j s .buffers .memory ≡ attempted .taken
     accepted-takes = by-accepts true
 
@@ -135,7 +135,7 @@ module _ (f : Attempt) (j : Job) (s : State) where
     says : Says (takes j (s .counters) (triedBy f j s .report)) (dcAfter (j .options) (j .transient) (triedBy f j s .report) (s .counters))
     says = dc-says j (s .counters) h (triedBy f j s .report)
 
-    -- a pass after which DC has ended with 0, 20 or 21 leaves each coil its current in DC's vector
+    -- a pass after which DC has ended with 0, 20 or 21 leaves each inductor its current in DC's vector
     pub dc-takes : DcEnds (pass f j s .counters) → pass f j s .buffers .memory ≡ attempted .taken
     dc-takes o = ⊎-elim (λ t. dc-memory ∙ by-takes true (t .0)) (λ t. absurd (t .1 (rw dc-reading at o))) says
 
