@@ -65,9 +65,30 @@ fn waiting(b: Build) -> Build {
     b.set(|o| o.catchup = 1)
 }
 
+/// The coil that is charged, and beside it a diode that has no part in its circuit but holds the steps open.
+fn held_elsewhere() -> Build {
+    let b = Build::transient(5, 3, 2.0).vpwl(1, 0, &UP, -1.0, 1).r(1, 2, 0.5).l(2, 0, 0.5, 0);
+    waiting(b.vpwl(3, 0, &[(0.0, 0.0), (1.0, 5.0), (9.0, 5.0)], -1.0, 2).r(3, 4, 1000.0).d(4, 0, 1e-12, 27.0))
+}
+
 /// Entry (1, 1) holds 2^53 from the base, where 1 and then 2 makes another sum than 2 and then 1.
 fn grain(b: Build) -> Build {
-    b.r(1, 0, f64::EPSILON / 2.0)
+    b.r(1, 0, 1.0 / GRAIN)
+}
+
+const GRAIN: f64 = 9007199254740992.0;
+
+/// A diode with a conductance of 2 at 0 V.
+fn unit_diode(b: Build) -> Build {
+    b.d(1, 0, 2.0, 0.0).set(|o| (o.boltzmann, o.charge) = (1.0, 363.0))
+}
+
+/// Minus 1 A at DC, and then 49 V across 49 H: the product, which is a float below 1, is rounded before the sum.
+fn rounded() -> Build {
+    Build::transient(2, 2, 0.5)
+        .vpwl(1, 0, &[(0.0, 0.0), (1.0, 49.0), (9.0, 49.0)], -1.0, 1)
+        .i(1, 0, 1.0)
+        .l(1, 0, 49.0, 0)
 }
 
 /// A node that overflows in the second step: with these its voltage alone is NaN, and later unknowns are not.
@@ -172,6 +193,26 @@ fn by_hand() -> Vec<Case> {
         ("beside a resistor", beside(Build::transient(2, 1, 2.0)).job(), rows(Some(5), still, &[(2, 1.0)])),
         ("equal nodes: tied to ground at DC, nothing in a step", Build::transient(2, 1, 2.0).i(0, 1, 1.0).r(1, 0, 1.0).l(1, 1, 1.0, 0).job(), rows(None, tied, &[(2, -1.0)])),
         ("turned, first in the sheet, with the last number", turned().job(), left(0, &[(0, -14.0)])),
+        ("a 49th of 49 V, rounded, less 1 A", rounded().job(), left(0, &[(2, -f64::EPSILON / 2.0)])),
+        ("no diode, so none behind", beside(Build::dc(2, 1)).set(|o| o.itl1 = 5).job(), left(0, &[]).map(|e| Expected { behind: Some(0), ..e })),
+    ]
+}
+
+/// Entries of the last system, worked out by hand: the order of sums, the conductance as it is, a row and a column with a 1.0 alone, and
+/// the current of the step before.
+#[rustfmt::skip]
+fn entries() -> Vec<Case> {
+    let step = || Build::transient(2, 1, 0.5);
+    let at = |verdict, system: &[(usize, usize, f64)]| Some(Expected { verdict, system: system.to_vec(), ..Expected::default() });
+    let g = 3.0 / 49.0;
+    let alone = [(1, 2, -g), (2, 1, -g), (1, 1, g), (2, 2, 1.0 + g), (3, 3, 1.0), (1, 3, 0.0), (2, 3, 0.0), (3, 1, 0.0), (3, 2, 0.0), (3, 4, 0.0), (3, 5, 0.0), (4, 3, 0.0)];
+    vec![
+        ("2^53, 1 of a coil, 2 of a capacitor", grain(step()).l(1, 0, 1.0, 0).c(1, 0, 2.0).job(), at(0, &[(1, 1, GRAIN + 2.0)])),
+        ("2^53, 2 of a capacitor, 1 of a coil", grain(step()).c(1, 0, 2.0).l(1, 0, 1.0, 0).job(), at(0, &[(1, 1, GRAIN + 4.0)])),
+        ("2^53, 2 of a dependent source, 1 of a coil that stands before it", grain(step()).l(1, 0, 1.0, 0).vccs([1, 0, 1, 0], 2.0).job(), at(0, &[(1, 1, GRAIN + 4.0)])),
+        ("2^53, 1 of a coil, 2 of a diode that stands before it", unit_diode(grain(step())).l(1, 0, 1.0, 0).job(), at(0, &[(1, 1, GRAIN + 2.0)])),
+        ("3 over 49, as it is", uneven().job(), at(0, &alone)),
+        ("the current of the step before, at the same time", standing().job(), at(24, &[(1, 4, 24.0 * 2f64.powi(-108))])),
     ]
 }
 
@@ -307,6 +348,7 @@ fn circuits() -> Vec<Case> {
         ("a diode in series holds steps open", waiting(pulse()).job(), None),
         ("a diode holds a step open until it is cut", waiting(pulse()).set(|o| (o.itl4, o.ft, o.tstop) = (3, 0.25, 0.02)).job(), None),
         ("a diode holds a step open until it is too small", waiting(pulse()).set(|o| (o.itl4, o.ft, o.rmin) = (3, 0.25, 0.3)).job(), None),
+        ("a diode of another circuit holds steps open", held_elsewhere().job(), left(0, &[(2, 14.0)])),
         ("a diode holds DC open", waiting(clamped(Build::dc(4, 2).v(1, 0, 5.0, 1))).job(), None),
         ("a diode beside a coil that is switched off", flyback().job(), None),
         ("the same, waiting", waiting(flyback()).job(), None),
@@ -481,7 +523,6 @@ fn sheet_tellers() -> Vec<(Wrong, Job)> {
 fn stamp_tellers() -> Vec<(Wrong, Job)> {
     let step = || Build::transient(2, 1, 0.5);
     let equal = || Build::dc(2, 1).i(0, 1, 1.0).r(1, 0, 1.0).l(1, 1, 1.0, 0);
-    let diode = |b: Build| b.d(1, 0, 2.0, 0.0).set(|o| (o.boltzmann, o.charge) = (1.0, 363.0));
     vec![
         (Wrong::CoilHenriesOverStep, charged().job()),
         (Wrong::CoilInverted, uneven().job()),
@@ -498,7 +539,7 @@ fn stamp_tellers() -> Vec<(Wrong, Job)> {
         (Wrong::CoilAfterCapacitors, grain(step()).l(1, 0, 1.0, 0).c(1, 0, 2.0).job()),
         (Wrong::CoilBeforeCapacitors, grain(step()).c(1, 0, 2.0).l(1, 0, 1.0, 0).job()),
         (Wrong::CoilBeforeDependent, grain(step()).l(1, 0, 1.0, 0).vccs([1, 0, 1, 0], 2.0).job()),
-        (Wrong::CoilAfterDiodes, diode(grain(step()).l(1, 0, 1.0, 0)).job()),
+        (Wrong::CoilAfterDiodes, unit_diode(grain(step()).l(1, 0, 1.0, 0)).job()),
     ]
 }
 
@@ -531,7 +572,9 @@ fn memory_tellers() -> Vec<(Wrong, Job)> {
         (Wrong::CoilUncutStep, cut().job()),
         (Wrong::CoilOldVoltage, charged().job()),
         (Wrong::CoilRegrouped, uneven().job()),
+        (Wrong::CoilRegrouped, rounded().job()),
         (Wrong::CoilFused, uneven().job()),
+        (Wrong::CoilFused, rounded().job()),
         (Wrong::CoilAfterRow, charged().rows(1).job()),
         (Wrong::CoilWithRow, charged().set(|o| o.tstart = 5.0).job()),
         (Wrong::CoilWithRow, charged().rows(1).job()),
@@ -547,7 +590,7 @@ fn memory_tellers() -> Vec<(Wrong, Job)> {
 
 pub fn all() -> Vec<Directed> {
     let named = |(name, job, expected)| Directed { name, job, expected, tells: Wrong::Nothing };
-    let short = [by_hand(), recurrences(), dc_ends(), step_ends(), circuits()].into_iter().flatten();
+    let short = [by_hand(), entries(), recurrences(), dc_ends(), step_ends(), circuits()].into_iter().flatten();
     let short = short.map(|(name, job, expected): Case| (name.to_string(), job, expected));
     let long = [henries(), numbers(), refusals()].into_iter().flatten();
     let mut list: Vec<Directed> = short.chain(long).map(named).collect();
@@ -706,6 +749,15 @@ mod tests {
         let told: Vec<Wrong> = list.iter().filter(told).map(|d| d.tells).collect();
         for (wrong, text) in wrong_coils() {
             assert!(told.contains(&wrong), "{}", text);
+        }
+    }
+
+    #[test]
+    fn a_wrong_model_misses_what_is_worked_out_by_hand() {
+        let list = all();
+        for (wrong, text) in wrong_coils() {
+            let misses = |d: &Directed| d.expected.is_some() && !meets(d, &model::run(&d.job, &OURS, wrong));
+            assert!(list.iter().any(misses), "{}", text);
         }
     }
 

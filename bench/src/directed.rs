@@ -167,6 +167,8 @@ pub struct Expected {
     pub whole: Vec<Vec<f64>>,
     /// Records and their memory.
     pub memory: Vec<(usize, f64)>,
+    /// Entries of the last system: row, column, number.
+    pub system: Vec<(usize, usize, f64)>,
 }
 
 fn dc_answer(verdict: u64, passes: u64, vector: &[f64]) -> Option<Expected> {
@@ -653,13 +655,15 @@ pub fn meets(d: &Directed, a: &Answer) -> bool {
     let whole = e.whole.iter().zip(a.buffers[ROWS].chunks(w)).all(|(x, y)| alike(x, y));
     let vector = alike(&e.vector, &a.buffers[VECTOR]);
     let memory = e.memory.iter().all(|(place, x)| same(a.buffers[MEMORY][*place], *x));
+    let system = e.system.iter().all(|(r, c, x)| same(a.buffers[SYSTEM][r * w + c], *x));
     let count = e.rows.len().max(e.whole.len()) as u64;
     let count = count == 0 || a.rows == count;
     let behind = e.behind.is_none() || a.behind == e.behind;
     let near = e.near.map_or(true, |(i, x)| (a.buffers[VECTOR][i] - x).abs() <= 0.00005);
     let passes = e.passes.is_none() || Some(a.passes) == e.passes;
     let dc = e.dc_verdict.map_or(true, |verdict| a.dc_verdict == verdict);
-    a.verdict == e.verdict && dc && passes && vector && memory && rows && whole && count && behind && near
+    let numbers = a.verdict == e.verdict && dc && passes && count && behind;
+    numbers && vector && memory && system && rows && whole && near
 }
 
 /// Shows each with its answer.
