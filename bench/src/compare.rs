@@ -150,7 +150,7 @@ pub fn describe(job: &Job) -> String {
     if job.sheet.len() % RECORD != 0 || job.points.len() % POINT != 0 {
         s += &format!(", sheet of {} bytes, points of {} bytes", job.sheet.len(), job.points.len());
     }
-    let names = ["?", "R", "I", "V", "D", "Isin", "Vsin", "Vpwl", "C", "Vcvs", "Vccs"];
+    let names = ["?", "R", "I", "V", "D", "Isin", "Vsin", "Vpwl", "C", "Vcvs", "Vccs", "L"];
     for e in job.elements().iter().take(60) {
         let name = names.get(e.kind as usize).unwrap_or(&"?");
         s += &format!("\n    {} ({}) {} {}", name, e.kind, e.a, e.b);

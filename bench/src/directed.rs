@@ -1,11 +1,12 @@
 //! Jobs written by hand: document 01's cases with the answers it gives, its limits, and one job
 //! for each reading that is easy to get wrong.
 
+use crate::coils;
 use crate::compare::*;
 use crate::first;
 use crate::job::*;
 use crate::limits;
-use crate::model::{self, Wrong, WRONG, WRONG_BEHIND, WRONG_PATTERN, WRONG_WORD};
+use crate::model::{self, wrong_coils, Wrong, WRONG, WRONG_BEHIND, WRONG_PATTERN, WRONG_WORD};
 use crate::oracle::plain;
 use crate::sides::{self, Outcome, MUST_AGREE, OURS, PAIRS};
 use crate::waiting;
@@ -119,6 +120,10 @@ impl Build {
         self.controlled(10, ends, k, 0)
     }
 
+    pub fn l(self, a: usize, b: usize, henries: f64, source: usize) -> Build {
+        self.put(COIL, a, b, source, [henries, 0.0, 0.0])
+    }
+
     pub fn set(mut self, change: fn(&mut Options)) -> Build {
         change(&mut self.job.options);
         self
@@ -145,27 +150,29 @@ impl Build {
     }
 }
 
-/// What document 01 itself says about a case.
+/// What document 01 itself says about a case, or what is worked out by hand.
+#[derive(Default)]
 pub struct Expected {
+    /// The refusal and its place.
+    pub refusal: (u64, u64),
     pub verdict: u64,
+    pub dc_verdict: Option<u64>,
     pub passes: Option<u64>,
     pub vector: Vec<f64>,
     /// The diode that is behind, and one number of the vector to half a unit of its fourth decimal, where they are known.
     pub behind: Option<u64>,
     pub near: Option<(usize, f64)>,
-    /// Times and one unknown's values, for a transient.
+    /// Times and one unknown's values, for a transient; or its whole rows.
     pub rows: Vec<(f64, usize, f64)>,
+    pub whole: Vec<Vec<f64>>,
+    /// Records and their memory.
+    pub memory: Vec<(usize, f64)>,
+    /// Entries of the last system: row, column, number.
+    pub system: Vec<(usize, usize, f64)>,
 }
 
 fn dc_answer(verdict: u64, passes: u64, vector: &[f64]) -> Option<Expected> {
-    Some(Expected {
-        verdict,
-        passes: Some(passes),
-        vector: vector.to_vec(),
-        behind: None,
-        near: None,
-        rows: Vec::new(),
-    })
+    Some(Expected { verdict, passes: Some(passes), vector: vector.to_vec(), ..Expected::default() })
 }
 
 pub struct Directed {
@@ -214,12 +221,11 @@ fn cases() -> Vec<(&'static str, Job, Option<Expected>)> {
             "case j",
             case_j().job(),
             Some(Expected {
-                verdict: 0,
                 passes: Some(8),
                 vector: vec![0.0, 0.875],
                 behind: Some(0),
-                near: None,
                 rows: vec![(0.0, 1, 1.0), (1.0, 1, 0.5), (2.0, 1, 0.75), (2.0, 1, 0.875)],
+                ..Expected::default()
             }),
         ),
         ("case j, budget 8", case_j().set(|o| o.budget = 8).job(), None),
@@ -631,28 +637,38 @@ pub fn budgets() -> Vec<Directed> {
     .collect()
 }
 
-fn meets(d: &Directed, a: &Answer) -> bool {
+pub fn meets(d: &Directed, a: &Answer) -> bool {
     let e = match &d.expected {
         None => return true,
         Some(e) => e,
     };
+    if a.refusal != 0 || e.refusal != (0, 0) {
+        return (a.refusal, a.place) == e.refusal;
+    }
     let w = (d.job.nodes + d.job.sources) as usize + 1;
     let rows = e
         .rows
         .iter()
         .enumerate()
         .all(|(k, (t, c, v))| same(a.buffers[ROWS][k * w], *t) && same(a.buffers[ROWS][k * w + 1 + c], *v));
-    let vector = e.vector.iter().zip(&a.buffers[VECTOR]).all(|(x, y)| same(*x, *y));
-    let count = e.rows.is_empty() || a.rows == e.rows.len() as u64;
+    let alike = |x: &[f64], y: &[f64]| x.iter().zip(y).all(|(x, y)| same(*x, *y));
+    let whole = e.whole.iter().zip(a.buffers[ROWS].chunks(w)).all(|(x, y)| alike(x, y));
+    let vector = alike(&e.vector, &a.buffers[VECTOR]);
+    let memory = e.memory.iter().all(|(place, x)| same(a.buffers[MEMORY][*place], *x));
+    let system = e.system.iter().all(|(r, c, x)| same(a.buffers[SYSTEM][r * w + c], *x));
+    let count = e.rows.len().max(e.whole.len()) as u64;
+    let count = count == 0 || a.rows == count;
     let behind = e.behind.is_none() || a.behind == e.behind;
     let near = e.near.map_or(true, |(i, x)| (a.buffers[VECTOR][i] - x).abs() <= 0.00005);
     let passes = e.passes.is_none() || Some(a.passes) == e.passes;
-    a.verdict == e.verdict && passes && vector && rows && count && behind && near
+    let dc = e.dc_verdict.map_or(true, |verdict| a.dc_verdict == verdict);
+    let numbers = a.verdict == e.verdict && dc && passes && count && behind;
+    numbers && vector && memory && system && rows && whole && near
 }
 
 /// Shows each with its answer.
 pub fn show_all() -> u64 {
-    for d in [all(), waiting::all(), first::all(), limits::all()].into_iter().flatten() {
+    for d in [all(), waiting::all(), first::all(), limits::all(), coils::all()].into_iter().flatten() {
         let o = sides::run(&d.job);
         let a = o.answer;
         println!("{}\n  {}", d.name, describe(&d.job));
@@ -670,6 +686,10 @@ pub fn show_all() -> u64 {
         if a.refusal == 0 {
             let w = (d.job.nodes + d.job.sources) as usize + 1;
             println!("  vector {:?}", &a.buffers[VECTOR][..w - 1]);
+            let coils = d.job.elements().into_iter().enumerate().filter(|(_, e)| e.is_coil());
+            for (place, _) in coils {
+                println!("  current of record {}: {:?}", place, a.buffers[MEMORY][place]);
+            }
             for k in 0..(a.rows as usize).min(6) {
                 println!("  row {:?}", &a.buffers[ROWS][k * w..(k + 1) * w]);
             }
@@ -688,8 +708,14 @@ fn amiss(d: &Directed, o: &Outcome) -> Vec<String> {
     }
     if !meets(d, &o.answer) {
         list.push(format!(
-            "expected otherwise: verdict {}, passes {}, diode behind {:?}, vector {:?}",
-            o.answer.verdict, o.answer.passes, o.answer.behind, o.answer.buffers[VECTOR]
+            "expected otherwise: {} at {}, passes {}, rows {}, diode behind {:?}, vector {:?}, memory {:?}",
+            o.answer.outcome(),
+            o.answer.place,
+            o.answer.passes,
+            o.answer.rows,
+            o.answer.behind,
+            o.answer.buffers[VECTOR],
+            o.answer.buffers[MEMORY]
         ));
     }
     list
@@ -745,8 +771,9 @@ pub fn untold_by_calls(told: &[Wrong], list: &[(Wrong, &str)]) -> u64 {
 /// Runs them all; answers how many are amiss.
 pub fn run() -> u64 {
     let list: Vec<Directed> =
-        [all(), budgets(), waiting::all(), first::all(), limits::all()].into_iter().flatten().collect();
+        [all(), budgets(), waiting::all(), first::all(), limits::all(), coils::all()].into_iter().flatten().collect();
     let calls = first::run_calls() + limits::run_calls() + limits::run_stairs();
+    let calls = calls + coils::run_lent() + coils::run_gyrators();
     let mut bad = 0;
     let mut told = Told::default();
     for d in &list {
@@ -778,6 +805,7 @@ pub fn run() -> u64 {
     bad += told.untold("diodes that are behind and of waiting", WRONG_BEHIND);
     bad += told.untold("patterns that start away from zero", &[WRONG_PATTERN, WRONG_WORD].concat());
     bad += told.untold("the diode's limiting rule", &limits::shown_by_runs());
+    bad += told.untold("coils", &wrong_coils());
     bad + calls
 }
 

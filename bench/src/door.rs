@@ -34,7 +34,11 @@ pub fn call(job: &Job, b: &mut [Vec<f64>; 6]) -> Answer {
 
 /// The whole answer, buffers included.
 pub fn run(job: &Job) -> Option<Answer> {
-    let mut buffers = job.lent();
+    run_lent(job, job.lent())
+}
+
+/// The same on buffers that hold something else when they are lent.
+pub fn run_lent(job: &Job, mut buffers: [Vec<f64>; 6]) -> Option<Answer> {
     let mut answer = call(job, &mut buffers);
     answer.buffers = buffers;
     Some(answer)

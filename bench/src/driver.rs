@@ -31,6 +31,8 @@ pub fn circuit(job: &Job) -> Circuit {
             }
             8 => Part::C(Capacitor { ident, a: p, b: n, value: x }),
             9 => Part::Vcvs(Vcvs { ident, p, n, cp, cn, k: x, idx }),
+            // what a coil is at DC; runs that go on into a step with one are not the Rust's
+            COIL => Part::V(VoltageSource { p, n, value: 0.0, idx }),
             _ => Part::Vccs(Vccs { ident, p, n, cp, cn, k: x }),
         });
     }

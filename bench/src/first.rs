@@ -143,13 +143,13 @@ fn level(x: f64) -> Option<Expected> {
 
 fn ended(verdict: u64, x: f64) -> Option<Expected> {
     let vector = vec![0.0, x];
-    Some(Expected { verdict, passes: None, behind: Some(0), near: None, vector, rows: Vec::new() })
+    Some(Expected { verdict, behind: Some(0), vector, ..Expected::default() })
 }
 
 /// A transient that ends with 0 and has these times and levels of node 1.
 fn rows(list: &[(f64, f64)]) -> Option<Expected> {
     let rows = list.iter().map(|(t, x)| (*t, 1, *x)).collect();
-    Some(Expected { verdict: 0, passes: None, behind: None, near: None, vector: Vec::new(), rows })
+    Some(Expected { rows, ..Expected::default() })
 }
 
 type Named = (String, Job, Option<Expected>);

@@ -1,8 +1,11 @@
-//! Jobs from a seed and a place: all ten kinds, N from 1 to 48, sound circuits and wild ones,
+//! Jobs from a seed and a place: all ten kinds of document 01 and coils, N from 1 to 48, sound circuits and wild ones,
 //! odd options, short budgets and buffers, damaged calls.
 
 use crate::job::*;
 use crate::random::Random;
+
+/// A kind that is none. It was 11 until that became a coil, and stands in its place, so that all else is drawn as before.
+pub const UNKNOWN_KIND: u8 = 13;
 
 /// Sorts of jobs, by what they are meant to reach.
 #[derive(Clone, Copy, PartialEq, Debug)]
@@ -20,6 +23,8 @@ pub enum Sort {
     Clamped,
     /// Patterns as sources, and behind resistors nodes with capacitors and a few diodes.
     Patterned,
+    /// Sources, and behind resistors nodes with capacitors and a few diodes, for coils among them.
+    Coiled,
 }
 
 fn sort(r: &mut Random) -> Sort {
@@ -220,7 +225,11 @@ fn tie(m: &mut Maker, elements: &mut Vec<Element>) {
 fn clamps(m: &mut Maker, sources: usize, elements: &mut Vec<Element>) {
     let driven = sources.min(m.nodes.saturating_sub(1));
     for k in 0..driven {
-        let kinds = if m.sort == Sort::Patterned { [7, 7, 7, 7, 3] } else { [3, 3, 3, 6, 7] };
+        let kinds = match m.sort {
+            Sort::Patterned => [7, 7, 7, 7, 3],
+            Sort::Coiled => [3, 6, 7, 7, 7],
+            _ => [3, 3, 3, 6, 7],
+        };
         let kind = m.r.pick(&kinds);
         let mut e = m.element(kind);
         (e.a, e.b) = (1 + k as u16, 0);
@@ -236,7 +245,11 @@ fn clamps(m: &mut Maker, sources: usize, elements: &mut Vec<Element>) {
         put(m, 1, if driven > 0 { before.max(1) } else { before }, false);
         let to = if m.r.one_in(3) { m.r.below(k) } else { 0 };
         let turned = m.r.one_in(3);
-        let clamp = if m.sort == Sort::Patterned { m.r.pick(&[1, 1, 8, 4]) } else { 4 };
+        let clamp = match m.sort {
+            Sort::Patterned => m.r.pick(&[1, 1, 8, 4]),
+            Sort::Coiled => m.r.pick(&[1, 1, 1, 8, 8, 4]),
+            _ => 4,
+        };
         put(m, clamp, to, turned);
         for kind in [1, 8, 2] {
             if m.r.one_in(4) {
@@ -360,6 +373,174 @@ pub fn first(seed: u64, place: u64) -> (Job, Sort) {
     }
     job.options.pattern_first = on(&mut r);
     (job, sort)
+}
+
+/// The job of a seed and a place with coils in it: half of them ladders in which steps are cut and grow, half the sorts above. Either
+/// option is on in one of four.
+pub fn coils(seed: u64, place: u64) -> (Job, Sort) {
+    let mut r = Random::new(seed ^ 0x494e_4455_4354_4f52, place);
+    let sort = match r.below(12) {
+        0..=5 => Sort::Coiled,
+        6 | 7 => Sort::Round,
+        8 => Sort::Wild,
+        9 | 10 => sort(&mut r),
+        _ => Sort::Damaged,
+    };
+    let whole = if sort == Sort::Damaged { r.pick(&[Sort::Coiled, Sort::Round, Sort::Sound]) } else { sort };
+    let mut job = wound(&mut r, whole);
+    if sort == Sort::Damaged {
+        damage_coils(&mut r, &mut job);
+    }
+    (job, sort)
+}
+
+/// A job of one sort with coils in it.
+pub fn wound(r: &mut Random, sort: Sort) -> Job {
+    let mut job = make(r, sort);
+    if sort == Sort::Coiled {
+        rough(r, &mut job.options);
+        quiet(r, &mut job);
+    }
+    if r.one_in(4) {
+        job.options.pattern_first = on(r);
+        if r.one_in(2) {
+            let times = instants(&job.options);
+            patterns(r, &mut job, &times);
+        }
+    }
+    if r.one_in(4) {
+        loosen(r, &mut job.options);
+        job.options.catchup = on(r);
+    }
+    wind(r, &mut job, sort);
+    job
+}
+
+/// Steps that are often cut and seldom become too small, and that grow.
+fn rough(r: &mut Random, o: &mut Options) {
+    o.itl1 = r.pick(&[0, 1, 2, 5, 10, 50, 100]);
+    o.itl3 = r.pick(&[0, 2, 3, 6, 10]);
+    o.itl4 = r.pick(&[1, 1, 1, 2, 3, 10, 50]);
+    o.ft = r.pick(&[0.5, 0.5, 0.25, 0.9]);
+    o.rmin = r.pick(&[1e-2, 1e-4, 1e-6, 1e-9]);
+    if !r.one_in(3) {
+        o.reltol = r.pick(&[0.01, 0.1, 0.5, 0.9, 0.9]);
+        o.vntol = r.pick(&[1e-6, 1e-3, 0.1, 2.0]);
+        o.abstol = r.pick(&[1e-6, 1e-3, 0.1, 2.0]);
+    }
+}
+
+/// Patterns that mostly start at 0 V, so that DC has a level.
+fn quiet(r: &mut Random, job: &mut Job) {
+    let mut points = job.pattern();
+    for e in job.elements().iter().filter(|e| e.kind == 7 && e.count > 0) {
+        if !r.one_in(8) {
+            points[e.first as usize].1 = 0.0;
+        }
+    }
+    job.set_pattern(&points);
+}
+
+/// Puts coils into a job, mostly one to three, and gives all sources numbers anew: those of coils are last, first or anywhere.
+fn wind(r: &mut Random, job: &mut Job, sort: Sort) {
+    let mut elements = job.elements();
+    let (before, mut coils) = (job.sources as usize, 0);
+    let wanted = if r.one_in(8) { 1 + r.below(12) } else { 1 + r.below(3) };
+    for _ in 0..wanted {
+        if job.nodes + (before + coils) as u64 + 2 <= 48 && elements.len() < 255 {
+            let mut coil = place_coil(r, job, &mut elements);
+            coil.value[0] = henries(r, &job.options, sort);
+            coil.source = (before + coils) as u16;
+            let at = r.below(elements.len() + 1);
+            elements.insert(at, coil);
+            coils += 1;
+        }
+    }
+    let all = before + coils;
+    let mut order: Vec<u16> = (0..all as u16).collect();
+    match r.below(4) {
+        0 => {}
+        1 => order.rotate_right(coils),
+        _ => (1..all).rev().for_each(|i| order.swap(i, r.below(i + 1))),
+    }
+    for e in elements.iter_mut().filter(|e| e.has_source()) {
+        e.source = order[e.source as usize];
+    }
+    job.sources = all as u64;
+    job.set_elements(&elements);
+    lend(r, job, sort);
+}
+
+/// A coil in series with an earlier record, at a node of its own; or beside one; or in place of one; or anywhere.
+fn place_coil(r: &mut Random, job: &mut Job, elements: &mut Vec<Element>) -> Element {
+    let some: Vec<usize> = (0..elements.len()).filter(|k| matches!(elements[*k].kind, 1 | 2 | 4 | 5 | 8)).collect();
+    let (a, b) = (r.below(job.nodes as usize), r.below(job.nodes as usize));
+    if some.is_empty() {
+        return Element::new(COIL, a, b);
+    }
+    let k = r.pick(&some);
+    let beside = Element { kind: COIL, value: [0.0; 3], ..elements[k] };
+    // beside a source, or between two, DC has no one answer
+    let driven = |n: u16| n == 0 || elements.iter().any(|e| e.has_source() && (e.a == n || e.b == n));
+    let loops = driven(beside.a) && driven(beside.b);
+    match r.below(12) {
+        6 | 7 if !loops => beside,
+        8 if !loops => {
+            elements.remove(k);
+            beside
+        }
+        9 => beside,
+        10 => Element { b: 0, ..beside },
+        11 => Element::new(COIL, a, b),
+        _ => {
+            let own = job.nodes as u16;
+            job.nodes += 1;
+            elements[k].b = own;
+            Element { a: own, ..beside }
+        }
+    }
+}
+
+/// Henries that make a step's conductance one of the circuit's sizes, now and then any.
+fn henries(r: &mut Random, o: &Options, sort: Sort) -> f64 {
+    match sort {
+        Sort::Wild => r.any(),
+        Sort::Round => r.pick(&[0.25, 0.5, 0.5, 1.0, 2.0, 3.0, 4.0, 0.0, -1.0]),
+        _ => match r.below(16) {
+            0 => r.any(),
+            1 => r.decades(-12.0, 3.0),
+            _ => o.tstep * o.fs * r.decades(-2.0, 4.0),
+        },
+    }
+}
+
+/// A fault of a coil, and now and then another record's; or any fault of a job.
+fn damage_coils(r: &mut Random, job: &mut Job) {
+    if r.one_in(4) || !damage_coil(r, job) {
+        damage(r, job);
+    } else if r.one_in(4) {
+        damage_record(r, job);
+    }
+}
+
+/// A fault of a coil: mostly a number that it shares with some source, else one of its bytes. Says whether there is a coil.
+pub fn damage_coil(r: &mut Random, job: &mut Job) -> bool {
+    let elements = job.elements();
+    let coils: Vec<usize> = (0..elements.len()).filter(|k| elements[*k].is_coil()).collect();
+    let sources: Vec<usize> = (0..elements.len()).filter(|k| elements[*k].has_source()).collect();
+    if coils.is_empty() {
+        return false;
+    }
+    let coil = r.pick(&coils);
+    match r.below(8) {
+        0..=4 => {
+            let (from, to) = if r.one_in(2) { (coil, r.pick(&sources)) } else { (r.pick(&sources), coil) };
+            let number = elements[from].source.to_le_bytes();
+            job.sheet[to * RECORD + 10..to * RECORD + 12].copy_from_slice(&number);
+        }
+        fault => damage_bytes(r, job, coil * RECORD, fault + 1),
+    }
+    true
 }
 
 /// Steps that mostly do not grow, so that their times are known beforehand.
@@ -528,9 +709,10 @@ pub fn loosen(r: &mut Random, o: &mut Options) {
 /// A job of one sort.
 pub fn make(r: &mut Random, sort: Sort) -> Job {
     // a pattern needs a node and a source
-    let (least, driver) = if sort == Sort::Patterned { (3, 1) } else { (1, 0) };
+    let (least, driver) = if matches!(sort, Sort::Patterned | Sort::Coiled) { (3, 1) } else { (1, 0) };
     let unknowns = size(r).max(least);
     let most_sources = r.below((unknowns / 2).min(8) + 1).max(driver);
+    let most_sources = if sort == Sort::Coiled { most_sources.min(2) } else { most_sources };
     let nodes = unknowns - most_sources.min(unknowns - 1);
     let options = options(r, sort);
     let transient = !r.one_in(4);
@@ -542,7 +724,7 @@ pub fn make(r: &mut Random, sort: Sort) -> Job {
         _ => 1 + m.r.below(2 * nodes + 2),
     };
     let mut sources = 0;
-    let driven = matches!(sort, Sort::Clamped | Sort::Patterned);
+    let driven = matches!(sort, Sort::Clamped | Sort::Patterned | Sort::Coiled);
     if driven {
         clamps(&mut m, most_sources, &mut elements);
         sources = most_sources;
@@ -593,6 +775,15 @@ pub fn make(r: &mut Random, sort: Sort) -> Job {
     if sort == Sort::Counts {
         counts(r, &mut job);
     }
+    lend(r, &mut job, sort);
+    if sort == Sort::Damaged {
+        damage(r, &mut job);
+    }
+    job
+}
+
+/// Lends what the job needs, now and then a little more, or little.
+fn lend(r: &mut Random, job: &mut Job, sort: Sort) {
     job.fit(200);
     if r.one_in(5) {
         for l in job.lengths.iter_mut() {
@@ -600,12 +791,8 @@ pub fn make(r: &mut Random, sort: Sort) -> Job {
         }
     }
     if sort == Sort::Short {
-        shorten(r, &mut job);
+        shorten(r, job);
     }
-    if sort == Sort::Damaged {
-        damage(r, &mut job);
-    }
-    job
 }
 
 /// Counts and constants that are not the Rust's own.
@@ -720,7 +907,7 @@ fn damage_bytes(r: &mut Random, job: &mut Job, byte: usize, fault: usize) {
         return;
     }
     match fault {
-        5 => job.sheet[byte] = r.pick(&[0, 11, 12, 99, 255]),
+        5 => job.sheet[byte] = r.pick(&[0, UNKNOWN_KIND, 12, 99, 255]),
         6 => {
             let at = byte + 1 + r.below(39);
             job.sheet[at] = job.sheet[at].wrapping_add(1 + r.below(255) as u8);
@@ -742,5 +929,58 @@ fn damage_bytes(r: &mut Random, job: &mut Job, byte: usize, fault: usize) {
                 job.sheet[byte] = 7;
             }
         }
+    }
+}
+
+#[cfg(test)]
+mod tests {
+    use super::*;
+    use crate::model;
+    use crate::spread_calls;
+
+    fn kinds(sheet: &[u8]) -> Vec<u8> {
+        sheet.chunks_exact(RECORD).map(|r| r[0]).collect()
+    }
+
+    #[test]
+    fn streams_from_before_coils_draw_none() {
+        let mut drawn = Vec::new();
+        for place in 0..6_000 {
+            drawn.extend([job, waiting, first].iter().flat_map(|draw| kinds(&draw(1, place).0.sheet)));
+        }
+        for place in 0..60 {
+            drawn.extend(
+                [spread_calls::call, spread_calls::sound_call].iter().flat_map(|draw| kinds(&draw(1, place).sheets)),
+            );
+        }
+        assert!(drawn.contains(&UNKNOWN_KIND));
+        assert!(!drawn.contains(&COIL));
+    }
+
+    #[test]
+    fn a_job_with_coils_is_refused_only_where_it_is_damaged() {
+        let (mut with, mut shared) = (0, 0);
+        for place in 0..6_000 {
+            let (job, sort) = coils(1, place);
+            let elements = job.elements();
+            let (number, at) = model::refusal(&job);
+            assert!(number == 0 || sort == Sort::Damaged, "job {}", place);
+            with += elements.iter().any(|e| e.is_coil()) as u64;
+            shared += (number == 9 && (elements[at as usize].source as u64) < job.sources) as u64;
+        }
+        assert!(with > 5_700, "{}", with);
+        assert!(shared > 60, "{}", shared);
+    }
+
+    #[test]
+    fn coils_have_the_last_number_and_others() {
+        let mut last = [0; 2];
+        for place in 0..2_000 {
+            let (job, _) = coils(2, place);
+            for e in job.elements().iter().filter(|e| e.is_coil()) {
+                last[(e.source as u64 + 1 == job.sources) as usize] += 1;
+            }
+        }
+        assert!(last.iter().all(|count| *count > 500), "{:?}", last);
     }
 }

@@ -4,6 +4,8 @@ pub use crate::raw::{Options, BOLTZMANN, CHARGE, GMIN};
 use std::convert::TryInto;
 
 pub const RECORD: usize = 40;
+/// The kind that the Rust has not: an inductor, here called a coil.
+pub const COIL: u8 = 11;
 pub const POINT: usize = 16;
 
 /// How many words the options have. The floats come first, then the counts, of which the budget cannot be 0.
@@ -185,7 +187,11 @@ impl Element {
     }
 
     pub fn has_source(&self) -> bool {
-        matches!(self.kind, 3 | 6 | 7 | 9)
+        matches!(self.kind, 3 | 6 | 7 | 9) || self.is_coil()
+    }
+
+    pub fn is_coil(&self) -> bool {
+        self.kind == COIL
     }
 
     pub fn has_controls(&self) -> bool {

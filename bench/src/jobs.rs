@@ -4,7 +4,7 @@ use crate::compare::*;
 use crate::form::{file, Form};
 use crate::generate::{self, Sort};
 use crate::job::*;
-use crate::model::{self, Situation, Situations, Wrong, SITUATIONS};
+use crate::model::{self, wrong_coils, Situation, Situations, Wrong, SITUATIONS};
 use crate::model::{WRONG, WRONG_BEHIND, WRONG_LIMIT, WRONG_PATTERN, WRONG_WORD};
 use crate::shrink::shrink;
 use crate::sides::{self, MUST_AGREE, OURS, PAIRS};
@@ -97,7 +97,7 @@ impl Apart {
 /// The job of a seed and a place.
 type Draw = fn(u64, u64) -> (Job, Sort);
 
-/// One of the three lists of random jobs: with every option off, with `catchup` on, and with `pattern_first` on.
+/// One of the four lists of random jobs: with every option off, with `catchup` on, with `pattern_first` on, and with coils.
 struct List {
     name: &'static str,
     draw: Draw,
@@ -125,10 +125,14 @@ fn first() -> List {
     List { name: "pattern jobs", draw: generate::first, wrong }
 }
 
-/// Runs `count` jobs with both options off, as many with `catchup` on and as many with `pattern_first` on; answers the number that
-/// differ where none may.
+fn coils() -> List {
+    List { name: "jobs with coils", draw: generate::coils, wrong: wrong_coils() }
+}
+
+/// Runs `count` jobs with both options off, as many with `catchup` on, as many with `pattern_first` on and as many with coils; answers
+/// the number that differ where none may.
 pub fn run(seed: u64, count: u64, folder: &str) -> u64 {
-    [off(), on(), first()].iter().map(|list| run_list(list, seed, count, folder)).sum()
+    [off(), on(), first(), coils()].iter().map(|list| run_list(list, seed, count, folder)).sum()
 }
 
 fn run_list(list: &List, seed: u64, count: u64, folder: &str) -> u64 {
@@ -144,11 +148,13 @@ fn run_list(list: &List, seed: u64, count: u64, folder: &str) -> u64 {
     let mut sizes = [0u64; 49];
     let mut diodes = Diodes::default();
     let mut moved = Moved::default();
+    let mut coils = Coiled::default();
     for place in 0..count {
         let (job, sort) = (list.draw)(seed, place);
         let outcome = sides::run(&job);
         diodes.add(&job, &outcome);
         moved.add(&job, &outcome);
+        coils.add(&job, &outcome);
         outcomes.add(&outcome.answer.outcome());
         sorts.add(&format!("{:?}", sort));
         if outcome.answer.refusal == 0 {
@@ -198,6 +204,7 @@ fn run_list(list: &List, seed: u64, count: u64, folder: &str) -> u64 {
     );
     diodes.tell();
     moved.tell();
+    coils.tell();
     for p in 0..5 {
         if compared[p] > 0 {
             println!("  {}: {} compared, {} differ", PAIRS[p], compared[p], differing[p]);
@@ -332,16 +339,93 @@ impl Moved {
     }
 }
 
-/// One job of a seed, of one of the three lists: its words, its answer, and what differs.
+/// What a list has of coils.
+#[derive(Default)]
+struct Coiled {
+    /// Jobs with a coil that run: DC runs, transients; and the coils in them.
+    run: [u64; 2],
+    coils: u64,
+    ends: Tally,
+    dc_ends: Tally,
+    /// Jobs in which the end of DC gave a coil a current, and these currents.
+    set: [u64; 2],
+    /// Jobs in which an accepted step moved a coil's current, and these moves.
+    moved: [u64; 2],
+    /// Jobs in which a step was cut, these cuts, and the jobs among them in which a step was accepted too and moved a current.
+    cut: [u64; 3],
+    /// Jobs in which a diode held a step open.
+    held: u64,
+    /// Jobs with a coil that are refused, and those of them by 9 at a number that is below the count and so a shared one.
+    refused: Tally,
+    shared: u64,
+}
+
+impl Coiled {
+    fn add(&mut self, job: &Job, o: &sides::Outcome) {
+        let elements = job.elements();
+        let a = &o.answer;
+        if !elements.iter().any(|e| e.is_coil()) {
+            return;
+        }
+        if a.refusal != 0 {
+            self.refused.add(&a.outcome());
+            self.shared += (a.refusal == 9 && (elements[a.place as usize].source as u64) < job.sources) as u64;
+            return;
+        }
+        let c = o.beyond.coils;
+        self.run[job.transient as usize] += 1;
+        self.coils += c.present;
+        self.ends.add(&a.outcome());
+        self.dc_ends.add(&format!("{}", if job.transient { a.dc_verdict } else { a.verdict }));
+        let count = |counts: &mut [u64], times: u64| {
+            counts[0] += (times > 0) as u64;
+            counts[1] += times;
+        };
+        count(&mut self.set, c.set);
+        count(&mut self.moved, c.moved);
+        count(&mut self.cut, c.cut);
+        self.cut[2] += (c.cut > 0 && c.moved > 0) as u64;
+        self.held += (o.beyond.held > 0) as u64;
+    }
+
+    fn tell(&self) {
+        let [dc, transient] = self.run;
+        if dc + transient == 0 {
+            return;
+        }
+        println!(
+            "  jobs with coils that run: {}, {} DC and {} transient, {} coils in all; they end with {}; DC ends with {}",
+            dc + transient,
+            dc,
+            transient,
+            self.coils,
+            self.ends.line(),
+            self.dc_ends.line()
+        );
+        let [set, moved, cut] = [self.set[0], self.moved[0], self.cut[0]];
+        println!("  the end of DC gives a current in {} of them, {} currents in all", set, self.set[1]);
+        println!("  an accepted step moves a current in {} of them, {} moves in all", moved, self.moved[1]);
+        println!(
+            "  a step is cut in {} of them, {} cuts in all; in {} of these a current moves too; a diode holds a pass open in {}",
+            cut, self.cut[1], self.cut[2], self.held
+        );
+        println!("  jobs with coils refused: {}; for a shared number {}", self.refused.line(), self.shared);
+    }
+}
+
+/// One job of a seed, of one of the four lists: its words, its answer, and what differs.
 pub fn show_one(seed: u64, place: u64, which: usize) -> u64 {
-    let list = [off, on, first][which]();
+    let list = [off, on, first, coils][which]();
     let (job, sort) = (list.draw)(seed, place);
     let o = sides::run(&job);
     println!("job {} of seed {} ({:?}): {}", place, seed, sort, describe(&job));
     let a = &o.answer;
     println!("{}, DC verdict {}, passes {}, rows {}, end {:?}", a.outcome(), a.dc_verdict, a.passes, a.rows, a.end);
     let (held, moved) = (o.beyond.held, o.beyond.moved);
-    println!("diode behind {:?}, passes that waited {}, patterns moved {}", a.behind, held, moved);
+    println!(
+        "diode behind {:?}, passes that waited {}, patterns moved {}, {:?}",
+        a.behind, held, moved, o.beyond.coils
+    );
     for (p, pair) in o.pairs.iter().enumerate() {
         for d in pair.iter().flatten().take(20) {
             println!("  {}: {}", PAIRS[p], show(d));

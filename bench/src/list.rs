@@ -1,6 +1,7 @@
 //! The fixed list: jobs and the oracle's answers, for a replay without any Rust; and the replay
 //! of such a list, or of a file of jobs, on every side.
 
+use crate::coils;
 use crate::compare::*;
 use crate::directed;
 use crate::door;
@@ -8,7 +9,7 @@ use crate::first;
 use crate::form::{file, read_file, Form};
 use crate::generate;
 use crate::job::*;
-use crate::model::{self, Beyond, Wrong};
+use crate::model::{self, Beyond, Coils, Wrong};
 use crate::oracle::hooked;
 use crate::sides::{self, MUST_AGREE, OURS, PAIRS};
 use crate::tally::Tally;
@@ -37,8 +38,8 @@ fn quota(job: &Job, answer: &Answer) -> (String, u64) {
     (key, most)
 }
 
-/// The oracle's answer: the Rust's own where it has one, else the model's; they must agree. The Rust has none where a pass waits or
-/// a pattern is moved.
+/// The oracle's answer: the Rust's own where it has one, else the model's; they must agree. The Rust has none where a pass waits, a
+/// pattern is moved or a step has a coil; at DC a coil is a V of 0 to it.
 pub fn answer(job: &Job) -> Answer {
     let (answer, beyond) = model::run_beyond(job, &OURS, Wrong::Nothing);
     if answer.refusal != 0 || !beyond.none() {
@@ -123,12 +124,22 @@ fn small(job: &Job, place: u64, records: usize) -> bool {
     unknowns <= 5 && job.sheet.len() <= records * RECORD || unknowns <= 12 && place % 40 == 0
 }
 
+/// A job as the first list has it, which was drawn when 11 was no kind: its jobs stay what they were to the byte, chosen by what they
+/// are with an unknown kind and stored with 11. In ten of them that record decides the answer, which is then that of a coil.
+fn as_then(mut job: Job) -> Job {
+    for record in job.sheet.chunks_exact_mut(RECORD).filter(|r| r[0] == generate::UNKNOWN_KIND) {
+        record[0] = COIL;
+    }
+    job
+}
+
 /// Writes the list made from a seed.
 pub fn write(seed: u64, path: &str, form: Form) -> u64 {
     let mut taken = Taken::default();
     let mut take = |job: Job, directed: bool| {
-        if let Some(c) = Candidate::new(job, directed) {
+        if let Some(mut c) = Candidate::new(job, directed) {
             let (class, most) = quota(&c.job, &c.answer);
+            c.job = as_then(c.job);
             taken.take(c, &class, most, directed);
         }
     };
@@ -250,6 +261,61 @@ fn take_pattern(taken: &mut Taken, counts: &mut [u64; 4], job: Job, directed: bo
     }
 }
 
+/// How many random jobs of an ending `write_coils` takes: of those in which an accepted step moves a coil's current and one is cut, of
+/// the others in which it moves, and of those in which it does not.
+const WOUND: [u64; 3] = [6, 6, 1];
+
+/// Writes the jobs about coils: the directed ones, each once, then random ones, in form 2.
+pub fn write_coils(seed: u64, path: &str) -> u64 {
+    let mut taken = Taken::default();
+    let mut seen = Vec::new();
+    for d in coils::all() {
+        let bytes = d.job.bytes(Form::Two);
+        if !seen.contains(&bytes) {
+            seen.push(bytes);
+            taken.put(Candidate::new(d.job, true).expect("a directed job fits").job);
+        }
+    }
+    let directed = taken.list.len();
+    for place in 0..100_000 {
+        let (job, _) = generate::coils(seed, place);
+        if small(&job, place, 7) {
+            take_coil(&mut taken, job);
+        }
+    }
+    taken.write(seed, path, Form::Two);
+    println!("  {} directed, {} random: {}", directed, taken.list.len() - directed, taken.classes.line());
+    let with = |what: fn(&Coils) -> bool| {
+        taken.list.iter().filter(|(j, _)| what(&model::run_beyond(j, &OURS, Wrong::Nothing).1.coils)).count()
+    };
+    println!(
+        "  in {} of them a coil runs, in {} an accepted step moves its current, in {} a step is cut",
+        with(|c| c.present > 0),
+        with(|c| c.moved > 0),
+        with(|c| c.cut > 0)
+    );
+    0
+}
+
+/// Takes a random job with a coil whose answer is short, while there are few of its class.
+fn take_coil(taken: &mut Taken, job: Job) {
+    let coiled = job.elements().iter().any(|e| e.is_coil());
+    let c = match Candidate::new(job, false) {
+        Some(c) if coiled => c,
+        _ => return,
+    };
+    let Coils { moved, cut, .. } = c.beyond.coils;
+    let (class, most) = match (moved > 0, cut > 0) {
+        (true, true) => (c.class(true, ", moved and cut"), WOUND[0]),
+        (true, false) => (c.class(true, ", moved"), WOUND[1]),
+        _ => (c.class(false, ""), WOUND[2]),
+    };
+    let short = SHORT[(taken.classes.get(&class) > 0) as usize];
+    if c.answer.bytes(&c.job, Form::Two).len() <= short {
+        taken.take(c, &class, most, false);
+    }
+}
+
 /// Writes the jobs at the end of the budget.
 pub fn write_budgets(path: &str) -> u64 {
     let answered = |d: directed::Directed| {
@@ -296,4 +362,73 @@ pub fn replay(path: &str) -> u64 {
     }
     println!("{}: {} jobs replayed, {} differ", path, list.len(), bad);
     bad
+}
+
+#[cfg(test)]
+mod tests {
+    use super::*;
+
+    const FIRST: &[u8] = include_bytes!("../answers.bin");
+    const OF_COILS: &[u8] = include_bytes!("../answers6.bin");
+    /// Between them in time, and calls of spreads: written before there were coils, but for the unknown kind.
+    const OTHERS: [&[u8]; 4] = [
+        include_bytes!("../answers2.bin"),
+        include_bytes!("../answers3.bin"),
+        include_bytes!("../answers4.bin"),
+        include_bytes!("../answers5.bin"),
+    ];
+
+    fn has_coil(job: &Job) -> bool {
+        job.elements().iter().any(|e| e.is_coil())
+    }
+
+    fn read(bytes: &[u8]) -> Vec<(Job, Answer)> {
+        read_file(bytes).unwrap().into_iter().map(|(job, answer)| (job, answer.unwrap())).collect()
+    }
+
+    #[test]
+    fn of_the_first_list_ten_answers_are_a_coils() {
+        let list = read(FIRST);
+        let mut with = Vec::new();
+        let mut decided = Vec::new();
+        for (place, (job, stored)) in list.iter().enumerate().filter(|(_, (job, _))| has_coil(job)) {
+            with.push(place);
+            let now = model::run(job, &OURS, Wrong::Nothing);
+            assert!(compare(job, &now, stored, ALL).is_empty(), "job {}", place);
+            let then = model::run(job, &OURS, Wrong::CoilUnknownKind);
+            if !compare(job, &then, stored, ALL).is_empty() {
+                assert_eq!(then.refusal, 6);
+                decided.push(place);
+            }
+        }
+        assert_eq!(decided, [854, 976, 1190, 1315, 1381, 1523, 1537, 1554, 1612, 1673]);
+        assert_eq!(with.len(), 13);
+    }
+
+    #[test]
+    fn other_lists_from_before_coils_have_none() {
+        for bytes in OTHERS {
+            assert!(!read(bytes).iter().any(|(job, _)| has_coil(job)));
+        }
+    }
+
+    #[test]
+    fn the_list_of_coils_is_the_models() {
+        let list = read(OF_COILS);
+        assert!(list.iter().filter(|(job, _)| has_coil(job)).count() > 300);
+        for (place, (job, stored)) in list.iter().enumerate() {
+            let now = model::run(job, &OURS, Wrong::Nothing);
+            assert!(compare(job, &now, stored, ALL).is_empty(), "job {}", place);
+        }
+    }
+
+    #[test]
+    fn only_the_kind_of_an_unknown_record_becomes_11() {
+        let mut job = generate::job(1, 0).0;
+        job.sheet = vec![generate::UNKNOWN_KIND; 2 * RECORD + 7];
+        job.sheet[RECORD] = 12;
+        let mut expected = job.sheet.clone();
+        expected[0] = COIL;
+        assert_eq!(as_then(job).sheet, expected);
+    }
 }

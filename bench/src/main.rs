@@ -1,6 +1,7 @@
 //! The differential bench: the shipped engine against the published Rust and a plain model.
 
 mod behind;
+mod coils;
 mod compare;
 mod directed;
 #[cfg_attr(not(archive), path = "no_door.rs")]
@@ -10,6 +11,7 @@ mod first;
 mod form;
 mod functions;
 mod generate;
+mod inductor;
 mod job;
 mod jobs;
 mod leaves;
@@ -54,10 +56,11 @@ fn conclude(differences: u64) -> u64 {
 }
 
 const USAGE: &str = "usage: bench run SEED COUNT FOLDER | directed | show | leaves SEED COUNT | jobs SEED COUNT FOLDER
-    | job SEED PLACE | waiting-job SEED PLACE | pattern-job SEED PLACE | find READING SEED COUNT
+    | job SEED PLACE | waiting-job SEED PLACE | pattern-job SEED PLACE | coil-job SEED PLACE | find READING SEED COUNT
     | list SEED FILE [FORM] | list-budget FILE | list-catchup SEED FILE | list-pattern SEED FILE
-    | list-spreads SEED FILE | list-sound SEED FILE
-    | replay FILE | speed | time [ROW [FILE]] | spreads SEED CALLS | spread SEED PLACE | sound-spread SEED PLACE | spreads-speed FOLDER FILE";
+    | list-inductors SEED FILE | list-spreads SEED FILE | list-sound SEED FILE | list-spreads-inductors FILE
+    | replay FILE | speed | time [ROW [FILE]] | spreads SEED CALLS | spread SEED PLACE | sound-spread SEED PLACE | coil-spread SEED PLACE
+    | spreads-speed FOLDER FILE";
 
 fn main() {
     quiet_panics();
@@ -77,6 +80,7 @@ fn main() {
         "job" => jobs::show_one(seed(), number(2, 0), 0),
         "waiting-job" => jobs::show_one(seed(), number(2, 0), 1),
         "pattern-job" => jobs::show_one(seed(), number(2, 0), 2),
+        "coil-job" => jobs::show_one(seed(), number(2, 0), 3),
         "find" => directed::find(number(1, 0) as usize, number(2, 1), number(3, 100_000)),
         "list" => match number(3, 1) {
             1 => list::write(seed(), text(2, "answers.bin"), Form::One),
@@ -89,15 +93,18 @@ fn main() {
         "list-budget" => list::write_budgets(text(1, "answers3.bin")),
         "list-catchup" => list::write_waiting(seed(), text(2, "answers4.bin")),
         "list-pattern" => list::write_patterns(seed(), text(2, "answers5.bin")),
+        "list-inductors" => list::write_coils(seed(), text(2, "answers6.bin")),
         "list-spreads" => spread_list::write(seed(), text(2, "spreads.bin")),
         "list-sound" => spread_list::write_sound(seed(), text(2, "sound.bin")),
+        "list-spreads-inductors" => spread_list::write_coils(text(1, "spreads2.bin")),
         "replay" => list::replay(text(1, "answers.bin")),
         "speed" => speed::run(),
         "time" => speed::time(args.get(1).map(|_| number(1, 0) as usize), text(2, "-")),
         "spreads" => conclude(spreads::run(seed(), number(2, 1000))),
         "spreads-speed" => spreads_speed::run(text(1, "-"), text(2, "-")),
-        "spread" => spreads::show_one(seed(), number(2, 0), false),
-        "sound-spread" => spreads::show_one(seed(), number(2, 0), true),
+        "spread" => spreads::show_one(seed(), number(2, 0), 0),
+        "sound-spread" => spreads::show_one(seed(), number(2, 0), 1),
+        "coil-spread" => spreads::show_one(seed(), number(2, 0), 2),
         _ => {
             eprintln!("{}", USAGE);
             1

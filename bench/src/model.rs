@@ -1,12 +1,13 @@
-//! Document 01 written out a second time, plainly: refusals, passes, verdicts, every buffer; and the two options that are ours:
-//! one waits for diodes, the other lets a pattern start away from zero. It decides wherever the Rust has no answer, and is
-//! compared with the Rust wherever it has.
+//! Document 01 written out a second time, plainly: refusals, passes, verdicts, every buffer; the two options that are ours: one
+//! waits for diodes, the other lets a pattern start away from zero; and the record that is ours, a coil. It decides wherever the
+//! Rust has no answer, and is compared with the Rust wherever it has.
 //!
 //! `Wrong` holds readings that are easy to take and wrong; a model with one of them shows
 //! whether a job would tell it apart.
 
 use crate::behind;
 use crate::compare::same;
+use crate::inductor;
 use crate::job::*;
 use recorder::Functions;
 
@@ -116,6 +117,58 @@ pub enum Wrong {
     LimitTurnOnClimbExchanged,
     LimitFallBackClimbExchanged,
     LimitMemoryAsked,
+    // of coils: when one is refused, what it stamps, and when and by how much its memory moves
+    CoilUnknownKind,
+    CoilSourceUnused,
+    CoilUnusedNotAsked,
+    CoilSharedEarlierCoil,
+    CoilSharedLaterCoil,
+    CoilSharedOfCoils,
+    CoilSharedPlain,
+    CoilSharedAtEarlier,
+    CoilSharedByLetter,
+    CoilSharedByBytes,
+    CoilSharedBeforeNodes,
+    CoilSharedAfterPoints,
+    CoilHenriesOverStep,
+    CoilInverted,
+    CoilTurned,
+    CoilRowEmpty,
+    CoilDcRowStays,
+    CoilDcColumnStays,
+    CoilOpenAtDc,
+    CoilShortAdded,
+    CoilInBase,
+    CoilAfterCapacitors,
+    CoilBeforeCapacitors,
+    CoilBeforeDependent,
+    CoilAfterDiodes,
+    CoilStale,
+    CoilSetAfterFailure,
+    CoilZeroAfter20,
+    CoilZeroAfter21,
+    CoilNanZero,
+    CoilNotInDcCalls,
+    CoilDcTurned,
+    CoilDcUnknown,
+    CoilFromZero,
+    CoilEveryPass,
+    CoilRejected,
+    CoilWhenHeld,
+    CoilAtError,
+    CoilTooSmall,
+    CoilDoubledStep,
+    CoilUncutStep,
+    CoilOldVoltage,
+    CoilRegrouped,
+    CoilFused,
+    CoilAfterRow,
+    CoilWithRow,
+    CoilAtNode,
+    CoilAtSource,
+    CoilShown,
+    CoilReused,
+    CoilAskedBehind,
 }
 
 pub const WRONG: &[(Wrong, &str)] = &[
@@ -239,6 +292,74 @@ pub const WRONG_LIMIT: &[(Wrong, &str)] = &[
     (Wrong::LimitMemoryAsked, "the memory is the voltage asked for, not the limited one"),
 ];
 
+/// Readings of a coil's refusals.
+pub const WRONG_COIL_SHEET: &[(Wrong, &str)] = &[
+    (Wrong::CoilUnknownKind, "kind 11 is refused by 6"),
+    (Wrong::CoilSourceUnused, "a coil's source number must be zero bytes"),
+    (Wrong::CoilUnusedNotAsked, "a coil's unused bytes are not asked"),
+    (Wrong::CoilSharedEarlierCoil, "a number is asked for among earlier coils alone"),
+    (Wrong::CoilSharedLaterCoil, "a number is asked for where the later record is the coil alone"),
+    (Wrong::CoilSharedOfCoils, "only two coils must not share"),
+    (Wrong::CoilSharedPlain, "two sources without a coil must not share either"),
+    (Wrong::CoilSharedAtEarlier, "the earlier of the two is refused"),
+    (Wrong::CoilSharedByLetter, "two sources that share the number of a coil behind them are refused"),
+    (Wrong::CoilSharedByBytes, "records without a source number are taken for ones with number 0"),
+    (Wrong::CoilSharedBeforeNodes, "a shared number is asked for before 8"),
+    (Wrong::CoilSharedAfterPoints, "a shared number is asked for after 10"),
+];
+
+/// Readings of what a coil stamps.
+pub const WRONG_COIL_STAMP: &[(Wrong, &str)] = &[
+    (Wrong::CoilHenriesOverStep, "the conductance is henries over step, as a capacitor's"),
+    (Wrong::CoilInverted, "the conductance is inverted twice, as a capacitor's"),
+    (Wrong::CoilTurned, "the current is stamped from the second node to the first, as a capacitor's"),
+    (Wrong::CoilRowEmpty, "in the transient its row is empty"),
+    (Wrong::CoilDcRowStays, "in the transient its row and column are those of DC"),
+    (Wrong::CoilDcColumnStays, "in the transient its column is that of DC too"),
+    (Wrong::CoilOpenAtDc, "at DC it stamps nothing, as a capacitor does"),
+    (Wrong::CoilShortAdded, "the short is added and not assigned"),
+    (Wrong::CoilInBase, "the short stands in the base"),
+    (Wrong::CoilAfterCapacitors, "coils are stamped after capacitors, not in list order"),
+    (Wrong::CoilBeforeCapacitors, "coils are stamped before capacitors, not in list order"),
+    (Wrong::CoilBeforeDependent, "coils are stamped before dependent sources"),
+    (Wrong::CoilAfterDiodes, "coils are stamped after diodes"),
+];
+
+/// Readings of a coil's memory.
+pub const WRONG_COIL_MEMORY: &[(Wrong, &str)] = &[
+    (Wrong::CoilStale, "what the caller left in the memory stays at the start"),
+    (Wrong::CoilSetAfterFailure, "the memory is the DC vector's current after 22 and 24 too"),
+    (Wrong::CoilZeroAfter20, "the memory is still 0 after DC 20"),
+    (Wrong::CoilZeroAfter21, "the memory is still 0 after DC 21"),
+    (Wrong::CoilNanZero, "a DC current that is not finite is remembered as 0"),
+    (Wrong::CoilNotInDcCalls, "the memory is not set in DC calls"),
+    (Wrong::CoilDcTurned, "the memory is the DC current with the other sign"),
+    (Wrong::CoilDcUnknown, "the DC current is read at the source number, without the nodes before it"),
+    (Wrong::CoilFromZero, "the transient starts from a memory of 0, as capacitors start from zeros"),
+    (Wrong::CoilEveryPass, "the memory moves in every solved pass of a step"),
+    (Wrong::CoilRejected, "the memory moves when a step is cut"),
+    (Wrong::CoilWhenHeld, "the memory moves when the vectors agree, though a diode holds the step open"),
+    (Wrong::CoilAtError, "the memory moves in a step that ends with 21"),
+    (Wrong::CoilTooSmall, "the memory moves in a step that ends with 23"),
+    (Wrong::CoilDoubledStep, "the memory moves by the doubled step"),
+    (Wrong::CoilUncutStep, "the memory moves by the step before it was cut"),
+    (Wrong::CoilOldVoltage, "the memory moves by the voltage before the step"),
+    (Wrong::CoilRegrouped, "the current added is step times voltage over henries"),
+    (Wrong::CoilFused, "the product is not rounded before the sum"),
+    (Wrong::CoilAfterRow, "the memory moves after the row is written, so not before a 25"),
+    (Wrong::CoilWithRow, "the memory moves only where a row is written"),
+    (Wrong::CoilAtNode, "the memory stands at the first node's number"),
+    (Wrong::CoilAtSource, "the memory stands at the source number"),
+    (Wrong::CoilShown, "the rows of the transient show the current"),
+    (Wrong::CoilReused, "a pass at the time and with the step of the pass before is stamped with that one's memory"),
+    (Wrong::CoilAskedBehind, "a coil is asked whether it is behind"),
+];
+
+/// All readings of coils.
+pub fn wrong_coils() -> Vec<(Wrong, &'static str)> {
+    [WRONG_COIL_SHEET, WRONG_COIL_STAMP, WRONG_COIL_MEMORY].concat()
+}
+
 pub const MOST_UNKNOWNS: u128 = 48;
 pub const MOST_RECORDS: usize = 256;
 pub const MOST_POINTS: usize = 1024;
@@ -256,40 +377,82 @@ fn used(kind: u8) -> Vec<std::ops::Range<usize>> {
         7 => vec![2..6, 10..16, 16..32],
         9 => vec![2..12, 16..24],
         10 => vec![2..10, 16..24],
+        COIL => vec![2..6, 10..12, 16..24],
         _ => vec![],
     }
 }
 
-/// The lowest fault of one record, 0 if it has none.
-fn fault(r: &[u8], nodes: u64, sources: u64, points: usize) -> u64 {
-    let e = Element::read(r);
-    if e.kind < 1 || e.kind > 10 {
-        return 6;
+/// The same by a wrong reading of a coil's.
+fn misused(kind: u8, wrong: Wrong) -> Option<Vec<std::ops::Range<usize>>> {
+    match wrong {
+        Wrong::CoilSourceUnused if kind == COIL => Some(vec![2..6, 16..24]),
+        Wrong::CoilUnusedNotAsked if kind == COIL => Some(vec![1..40]),
+        _ => None,
     }
-    let ranges = used(e.kind);
-    for (i, byte) in r.iter().enumerate().skip(1) {
-        if *byte != 0 && !ranges.iter().any(|u| u.contains(&i)) {
-            return 7;
+}
+
+/// A sheet that is checked record by record.
+struct Checked<'a> {
+    job: &'a Job,
+    elements: Vec<Element>,
+    wrong: Wrong,
+}
+
+impl Checked<'_> {
+    /// The lowest fault of the record at a place, 0 if it has none.
+    fn fault(&self, place: usize) -> u64 {
+        let shared = (9, inductor::shares(&self.elements, place, self.wrong));
+        let mut faults = vec![(6, self.unknown(place)), (7, self.dirty(place)), (8, self.strange_node(place))];
+        faults.push((9, self.strange_source(place)));
+        faults.push((10, self.strange_points(place)));
+        let asked = match self.wrong {
+            Wrong::CoilSharedBeforeNodes => 2,
+            Wrong::CoilSharedAfterPoints => 5,
+            _ => 4,
+        };
+        faults.insert(asked, shared);
+        faults.iter().find(|f| f.1).map_or(0, |f| f.0)
+    }
+
+    fn unknown(&self, place: usize) -> bool {
+        let known = if self.wrong == Wrong::CoilUnknownKind { 1..=COIL - 1 } else { 1..=COIL };
+        !known.contains(&self.elements[place].kind)
+    }
+
+    fn dirty(&self, place: usize) -> bool {
+        let kind = self.elements[place].kind;
+        let ranges = misused(kind, self.wrong).unwrap_or_else(|| used(kind));
+        let record = &self.job.sheet[place * RECORD..(place + 1) * RECORD];
+        let unused = |i: &usize| !ranges.iter().any(|u| u.contains(i));
+        (1..RECORD).filter(unused).any(|i| record[i] != 0)
+    }
+
+    fn strange_node(&self, place: usize) -> bool {
+        let e = &self.elements[place];
+        let mut named = vec![e.a, e.b];
+        if e.has_controls() {
+            named.extend_from_slice(&[e.cp, e.cn]);
         }
+        named.iter().any(|n| *n as u64 >= self.job.nodes)
     }
-    let mut named = vec![e.a, e.b];
-    if e.has_controls() {
-        named.extend_from_slice(&[e.cp, e.cn]);
+
+    fn strange_source(&self, place: usize) -> bool {
+        let e = &self.elements[place];
+        e.has_source() && e.source as u64 >= self.job.sources
     }
-    if named.iter().any(|n| *n as u64 >= nodes) {
-        return 8;
+
+    fn strange_points(&self, place: usize) -> bool {
+        let e = &self.elements[place];
+        e.kind == 7 && e.first as usize + e.count as usize > self.job.points.len() / POINT
     }
-    if e.has_source() && e.source as u64 >= sources {
-        return 9;
-    }
-    if e.kind == 7 && e.first as usize + e.count as usize > points {
-        return 10;
-    }
-    0
 }
 
 /// The refusal and its place; 0 if the job runs.
 pub fn refusal(job: &Job) -> (u64, u64) {
+    refusal_by(job, Wrong::Nothing)
+}
+
+fn refusal_by(job: &Job, wrong: Wrong) -> (u64, u64) {
     let unknowns = job.nodes as u128 + job.sources as u128;
     if job.nodes == 0 || unknowns > MOST_UNKNOWNS {
         return (1, 0);
@@ -312,13 +475,9 @@ pub fn refusal(job: &Job) -> (u64, u64) {
     if needed.iter().zip(job.lengths.iter()).any(|(need, given)| given < need) {
         return (5, 0);
     }
-    for (place, r) in job.sheet.chunks_exact(RECORD).enumerate() {
-        let number = fault(r, job.nodes, job.sources, points);
-        if number != 0 {
-            return (number, place as u64);
-        }
-    }
-    (0, 0)
+    let checked = Checked { job, elements: job.elements(), wrong };
+    let faults = (0..records).map(|place| (checked.fault(place), place as u64));
+    faults.into_iter().find(|f| f.0 != 0).unwrap_or((0, 0))
 }
 
 /// Level of a piecewise-linear pattern at a time.
@@ -702,29 +861,29 @@ impl Matrix {
     }
 
     /// Entries for ground are skipped.
-    fn add(&mut self, r: usize, c: usize, x: f64) {
+    pub fn add(&mut self, r: usize, c: usize, x: f64) {
         if r != 0 && c != 0 {
             self.m[r * (self.n + 1) + c] += x;
         }
     }
 
-    fn assign(&mut self, r: usize, c: usize, x: f64) {
+    pub fn assign(&mut self, r: usize, c: usize, x: f64) {
         if r != 0 && c != 0 {
             self.m[r * (self.n + 1) + c] = x;
         }
     }
 
-    fn current(&mut self, first: usize, second: usize, i: f64) {
+    pub fn current(&mut self, first: usize, second: usize, i: f64) {
         let right = self.n;
         self.add(first, right, -i);
         self.add(second, right, i);
     }
 
-    fn resistor(&mut self, a: usize, b: usize, value: f64) {
+    pub fn resistor(&mut self, a: usize, b: usize, value: f64) {
         self.conductance(a, b, 1.0 / value);
     }
 
-    fn conductance(&mut self, a: usize, b: usize, g: f64) {
+    pub fn conductance(&mut self, a: usize, b: usize, g: f64) {
         self.add(a, a, g);
         self.add(a, b, -g);
         self.add(b, b, g);
@@ -740,7 +899,7 @@ impl Matrix {
     }
 
     /// A source's row is never 0: it is node count plus source number, and there is always a node.
-    fn voltage(&mut self, row: usize, a: usize, b: usize, v: f64, wrong: Wrong) {
+    pub fn voltage(&mut self, row: usize, a: usize, b: usize, v: f64, wrong: Wrong) {
         let right = self.n;
         self.assign(row, right, v);
         let mut ends = [(a, 1.0), (b, -1.0)];
@@ -869,12 +1028,27 @@ pub struct Beyond {
     pub held: u64,
     /// Evaluations of a pattern that gave other bits than the rule without the option; a NaN is one NaN.
     pub moved: u64,
+    /// The Rust has no coils, but at DC they are Vs of 0.
+    pub coils: Coils,
 }
 
 impl Beyond {
     pub fn none(&self) -> bool {
-        self.held == 0 && self.moved == 0
+        self.held == 0 && self.moved == 0 && self.coils.stepped == 0
     }
+}
+
+/// What a run did with its coils.
+#[derive(Clone, Copy, Default, PartialEq, Debug)]
+pub struct Coils {
+    pub present: u64,
+    /// Passes of steps, with a coil in them.
+    pub stepped: u64,
+    /// Memories that the end of DC, and that accepted steps, gave other bits; a NaN is one NaN.
+    pub set: u64,
+    pub moved: u64,
+    /// Times that a step was cut, with a coil in it.
+    pub cut: u64,
 }
 
 /// What storage elements look back at: the last accepted vector and the step.
@@ -899,6 +1073,8 @@ struct Run<'a> {
     memory: Vec<f64>,
     /// Vector and memory that the last pass began from.
     before: (Vec<f64>, Vec<f64>),
+    /// Of a wrong reading: time, step and memory that coils are stamped with.
+    stamped: Option<(f64, f64, Vec<f64>)>,
     passes: u64,
     beyond: Beyond,
     situations: Situations,
@@ -921,6 +1097,10 @@ impl<'a> Run<'a> {
                 3 => {
                     let row = self.row(&e);
                     self.base.voltage(row, a, b, e.value[0], self.wrong)
+                }
+                COIL if self.wrong == Wrong::CoilInBase => {
+                    let row = self.row(&e);
+                    inductor::short(&mut self.base, &e, row, self.wrong)
                 }
                 _ => {}
             }
@@ -981,13 +1161,77 @@ impl<'a> Run<'a> {
         }
     }
 
-    fn storage(&self, m: &mut Matrix, s: &Storage) {
-        for e in self.elements.iter().filter(|e| e.kind == 8) {
-            let (a, b) = (e.a as usize, e.b as usize);
-            let (g, i) = capacitor(e.value[0], s.accepted[a] - s.accepted[b], s.step);
-            m.current(b, a, i);
-            m.companion(a, b, g, self.wrong);
+    /// Storage elements in list order: at DC coils alone stamp something.
+    fn storage(&self, m: &mut Matrix, s: &Option<Storage>, kinds: &[u8]) {
+        for (k, e) in self.elements.iter().enumerate().filter(|(_, e)| kinds.contains(&e.kind)) {
+            match (e.kind, s) {
+                (8, Some(s)) => self.capacitor(m, e, s),
+                (COIL, Some(s)) => {
+                    let memory = self.stamped.as_ref().map_or(&self.memory, |old| &old.2)[self.memory_of(k)];
+                    inductor::companion(m, e, self.row(e), s.step, memory, self.wrong)
+                }
+                (COIL, None) if self.wrong != Wrong::CoilInBase => inductor::short(m, e, self.row(e), self.wrong),
+                _ => {}
+            }
         }
+    }
+
+    fn capacitor(&self, m: &mut Matrix, e: &Element, s: &Storage) {
+        let (a, b) = (e.a as usize, e.b as usize);
+        let (g, i) = capacitor(e.value[0], s.accepted[a] - s.accepted[b], s.step);
+        m.current(b, a, i);
+        m.companion(a, b, g, self.wrong);
+    }
+
+    /// Where the memory of a record stands.
+    fn memory_of(&self, place: usize) -> usize {
+        inductor::memory_of(&self.elements[place], place, self.memory.len(), self.wrong)
+    }
+
+    /// Puts a current into the memory of each coil, and counts those that it changes.
+    fn remember(&mut self, current: impl Fn(&Run, usize) -> f64) -> u64 {
+        let mut changed = 0;
+        for k in (0..self.elements.len()).filter(|k| self.elements[*k].is_coil()).collect::<Vec<usize>>() {
+            let (at, i) = (self.memory_of(k), current(self, k));
+            changed += !same(self.memory[at], i) as u64;
+            self.memory[at] = i;
+        }
+        changed
+    }
+
+    /// DC is over: "set to the DC vector's current when DC ends with 0, 20 or 21, and still 0.0 if DC ends otherwise".
+    fn remember_dc(&mut self, dc: Result<u64, u64>, transient: bool) {
+        let set = match (self.wrong, dc) {
+            (Wrong::CoilSetAfterFailure, _) => self.passes > 0,
+            (Wrong::CoilZeroAfter20, Ok(20)) | (Wrong::CoilZeroAfter21, Ok(21)) => false,
+            (Wrong::CoilNotInDcCalls, _) if !transient => false,
+            _ => dc.is_ok(),
+        };
+        if set {
+            let (nodes, wrong) = (self.nodes, self.wrong);
+            self.beyond.coils.set +=
+                self.remember(|run, k| inductor::current_of_dc(&run.elements[k], &run.vector, nodes, wrong));
+        }
+    }
+
+    /// A vector is taken, in a pass with this step: each coil's current moves.
+    fn remember_step(&mut self, step: f64, v: &[f64]) {
+        let wrong = self.wrong;
+        self.beyond.coils.moved += self.remember(|run, k| run.current_after(k, step, v, wrong));
+    }
+
+    /// The same where a wrong reading takes the vector solved last.
+    fn misremember(&mut self, reading: Wrong, step: f64) {
+        if self.wrong == reading {
+            let v = self.vector.clone();
+            self.remember_step(step, &v);
+        }
+    }
+
+    fn current_after(&self, k: usize, step: f64, v: &[f64], wrong: Wrong) -> f64 {
+        let e = &self.elements[k];
+        let across = v[e.a as usize] - v[e.b as usize];
+        inductor::current_after(e.value[0], step, across, self.memory[self.memory_of(k)], wrong)
     }
 
     fn diodes(&mut self, m: &mut Matrix) -> Result<(), u64> {
@@ -1016,23 +1260,45 @@ impl<'a> Run<'a> {
         }
         self.units -= 1;
         self.before = (self.vector.clone(), self.memory.clone());
+        if self.wrong == Wrong::CoilReused {
+            let step = storage.as_ref().map_or(0.0, |s| s.step);
+            let again = self.stamped.take().filter(|old| (old.0, old.1) == (t, step));
+            self.stamped = again.or(Some((t, step, self.memory.clone())));
+        }
         let mut m = self.base.clone();
         let in_step = storage.is_some();
+        self.beyond.coils.stepped += (in_step && self.beyond.coils.present > 0) as u64;
         if self.wrong == Wrong::DependentFirst {
             self.dependent(&mut m);
             self.independent(&mut m, t, in_step)?;
         } else {
             self.independent(&mut m, t, in_step)?;
+            if self.wrong == Wrong::CoilBeforeDependent {
+                self.storage(&mut m, &storage, &[COIL]);
+            }
             self.dependent(&mut m);
         }
-        if let Some(s) = storage {
-            self.storage(&mut m, &s);
+        for kinds in self.storage_order() {
+            self.storage(&mut m, &storage, kinds);
         }
         self.diodes(&mut m)?;
+        if self.wrong == Wrong::CoilAfterDiodes {
+            self.storage(&mut m, &storage, &[COIL]);
+        }
         self.system = m.clone();
         self.vector = solve(&mut m, self.wrong);
         self.passes += 1;
         Ok(())
+    }
+
+    /// The kinds of one walk over the storage elements after another: there is one for both.
+    fn storage_order(&self) -> &'static [&'static [u8]] {
+        match self.wrong {
+            Wrong::CoilAfterCapacitors => &[&[8], &[COIL]],
+            Wrong::CoilBeforeCapacitors => &[&[COIL], &[8]],
+            Wrong::CoilBeforeDependent | Wrong::CoilAfterDiodes => &[&[8]],
+            _ => &[&[8, COIL]],
+        }
     }
 
     /// The number of the first diode that is behind in the last solved vector.
@@ -1100,8 +1366,14 @@ impl<'a> Run<'a> {
         if self.row_count == self.room {
             return Err(25);
         }
+        let mut shown = self.vector.clone();
+        if self.wrong == Wrong::CoilShown && self.row_count > 0 {
+            for (k, e) in self.elements.iter().enumerate().filter(|(_, e)| e.is_coil()) {
+                shown[self.row(e)] = self.memory[k];
+            }
+        }
         self.rows.push(t);
-        self.rows.extend_from_slice(&self.vector);
+        self.rows.extend(shown);
         self.row_count += 1;
         Ok(())
     }
@@ -1112,15 +1384,21 @@ impl<'a> Run<'a> {
         let mut y = if self.wrong == Wrong::YFromLastStep { self.vector.clone() } else { vec![0.0; self.n] };
         let mut count = 0;
         let mut cut = false;
+        let uncut = *step;
         let least = self.o.tstep * self.o.rmin;
         loop {
             let held = self.beyond.held;
             self.pass(now + *step, Some(Storage { accepted, step: *step }))?;
             let state = self.state(&y, true);
+            self.misremember(Wrong::CoilEveryPass, *step);
             count += self.cost(held);
             match state {
-                State::Yes => return Ok(Step::Accepted { cut, count }),
-                State::Error => return Ok(Step::Failed(21)),
+                State::Yes => return Ok(Step::Accepted { cut, count, uncut }),
+                State::Error => {
+                    self.misremember(Wrong::CoilAtError, *step);
+                    return Ok(Step::Failed(21));
+                }
+                State::No if self.beyond.held > held => self.misremember(Wrong::CoilWhenHeld, *step),
                 State::No => {}
             }
             if count >= self.o.itl4 {
@@ -1128,12 +1406,26 @@ impl<'a> Run<'a> {
                 *step *= self.o.ft;
                 let compared = if self.wrong == Wrong::StepComparedFirst { before } else { *step };
                 if compared < least {
+                    self.misremember(Wrong::CoilTooSmall, before);
                     return Ok(Step::Failed(23));
                 }
+                self.misremember(Wrong::CoilRejected, before);
+                self.beyond.coils.cut += (self.beyond.coils.present > 0) as u64;
                 cut = true;
                 count = 0;
             }
             y = self.vector.clone();
+        }
+    }
+
+    /// A step is accepted with its vector, and its coils move by the very step that was solved. Readings that move them elsewhere do not here.
+    fn take(&mut self, step: f64, uncut: f64, accepted: &mut Vec<f64>) {
+        let before = std::mem::replace(accepted, self.vector.clone());
+        match self.wrong {
+            Wrong::CoilEveryPass | Wrong::CoilDoubledStep | Wrong::CoilAfterRow | Wrong::CoilWithRow => {}
+            Wrong::CoilUncutStep => self.remember_step(uncut, accepted),
+            Wrong::CoilOldVoltage => self.remember_step(step, &before),
+            _ => self.remember_step(step, accepted),
         }
     }
 
@@ -1145,6 +1437,9 @@ impl<'a> Run<'a> {
                     self.memory[k] = 0.0;
                 }
             }
+        }
+        if self.wrong == Wrong::CoilFromZero {
+            self.remember(|_, _| 0.0);
         }
         let mut step = self.o.tstep * self.o.fs;
         let mut accepted = vec![0.0; self.n];
@@ -1162,9 +1457,9 @@ impl<'a> Run<'a> {
                     }
                     return Ok(verdict);
                 }
-                Step::Accepted { cut, count } => {
+                Step::Accepted { cut, count, uncut } => {
                     solved_step = step;
-                    accepted = self.vector.clone();
+                    self.take(step, uncut, &mut accepted);
                     if !cut && count < self.o.itl3 {
                         let most = self.o.tstep * self.o.rmax;
                         if self.wrong == Wrong::MaxBeforeDoubling {
@@ -1178,6 +1473,7 @@ impl<'a> Run<'a> {
                     }
                 }
             }
+            self.misremember(Wrong::CoilDoubledStep, step);
             *now += if self.wrong == Wrong::TimeBySolvedStep { solved_step } else { step };
             let last = *now > self.o.tstop;
             if last {
@@ -1185,7 +1481,9 @@ impl<'a> Run<'a> {
             }
             if *now >= self.o.tstart && (*now != 0.0 || self.wrong == Wrong::RowAtZero) {
                 self.write_row(*now)?;
+                self.misremember(Wrong::CoilWithRow, solved_step);
             }
+            self.misremember(Wrong::CoilAfterRow, solved_step);
             if last {
                 return Ok(0);
             }
@@ -1194,7 +1492,12 @@ impl<'a> Run<'a> {
 }
 
 enum Step {
-    Accepted { cut: bool, count: u64 },
+    /// Whether it was cut, the count of its last passes, and its length before it was cut.
+    Accepted {
+        cut: bool,
+        count: u64,
+        uncut: f64,
+    },
     Failed(u64),
 }
 
@@ -1218,8 +1521,13 @@ pub fn run_beyond(job: &Job, f: &Functions, wrong: Wrong) -> (Answer, Beyond) {
 
 /// The same, and how often a diode was in each situation.
 pub fn run_counted(job: &Job, f: &Functions, wrong: Wrong) -> (Answer, Beyond, Situations) {
-    let (number, place) = refusal(job);
-    let mut answer = Answer::refused(job, number, place);
+    run_lent(job, job.lent(), f, wrong)
+}
+
+/// The same on buffers that hold something else when they are lent.
+pub fn run_lent(job: &Job, buffers: [Vec<f64>; 6], f: &Functions, wrong: Wrong) -> (Answer, Beyond, Situations) {
+    let (number, place) = refusal_by(job, wrong);
+    let mut answer = Answer { buffers, ..Answer::refused(job, number, place) };
     if number != 0 {
         return (answer, Beyond::default(), [0; 5]);
     }
@@ -1227,10 +1535,11 @@ pub fn run_counted(job: &Job, f: &Functions, wrong: Wrong) -> (Answer, Beyond, S
     let elements = job.elements();
     let mut memory = answer.buffers[MEMORY].clone();
     for (k, e) in elements.iter().enumerate() {
-        if e.kind == 4 {
+        if e.kind == 4 || e.is_coil() && wrong != Wrong::CoilStale {
             memory[k] = 0.0;
         }
     }
+    let present = elements.iter().filter(|e| e.is_coil()).count() as u64;
     let mut run = Run {
         o: job.options,
         f,
@@ -1245,9 +1554,10 @@ pub fn run_counted(job: &Job, f: &Functions, wrong: Wrong) -> (Answer, Beyond, S
         system: Matrix::zeros(n),
         vector: vec![0.0; n],
         before: (vec![0.0; n], memory.clone()),
+        stamped: None,
         memory,
         passes: 0,
-        beyond: Beyond::default(),
+        beyond: Beyond { coils: Coils { present, ..Coils::default() }, ..Beyond::default() },
         situations: [0; 5],
         rows: Vec::new(),
         row_count: 0,
@@ -1255,6 +1565,7 @@ pub fn run_counted(job: &Job, f: &Functions, wrong: Wrong) -> (Answer, Beyond, S
     };
     run.make_base();
     let dc = run.dc();
+    run.remember_dc(dc, job.transient);
     let of_dc = run.behind();
     answer.verdict = either(dc);
     if job.transient {

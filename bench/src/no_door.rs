@@ -19,6 +19,10 @@ pub fn run(_: &Job) -> Option<Answer> {
     None
 }
 
+pub fn run_lent(_: &Job, _: [Vec<f64>; 6]) -> Option<Answer> {
+    None
+}
+
 pub fn spreads(_: &Call) -> Option<Report> {
     None
 }

@@ -104,12 +104,30 @@ pub mod hooked {
         for ((k, _), v) in places.zip(diodes) {
             a.buffers[MEMORY][k] = v;
         }
+        if job.elements().iter().any(|e| e.is_coil()) {
+            with_coils(job, f, &mut a);
+        }
         a.buffers[ROWS][..seen.record.rows.len()].copy_from_slice(&seen.record.rows);
         // the Rust does not ask, but it has the vector and the memory
         let behind =
             behind::first(&job.sheet, &a.buffers[VECTOR][..n], &a.buffers[MEMORY], &job.options, Wrong::Nothing);
         a.behind = Some(behind);
         (a, seen.stopped)
+    }
+
+    /// What a run of Vs of 0 lacks to one of coils, that ends before a step: the base, which they have no part in, is that of a run
+    /// with capacitors in their place; and their memory is the current that DC leaves them.
+    fn with_coils(job: &Job, f: &Functions, a: &mut Answer) {
+        let mut open = job.clone();
+        let elements: Vec<Element> = job.elements();
+        let opened = |e: &Element| Element { value: e.value, ..Element::new(8, e.a as usize, e.b as usize) };
+        open.set_elements(&elements.iter().map(|e| if e.is_coil() { opened(e) } else { *e }).collect::<Vec<Element>>());
+        a.buffers[BASE] = run(&open, f).0.buffers[BASE].clone();
+        let dc = if job.transient { a.dc_verdict } else { a.verdict };
+        for (k, e) in elements.iter().enumerate().filter(|(_, e)| e.is_coil()) {
+            let i = a.buffers[VECTOR][job.nodes as usize + e.source as usize];
+            a.buffers[MEMORY][k] = if matches!(dc, 0 | 20 | 21) { i } else { 0.0 };
+        }
     }
 
     /// The Rust's private `solve`.

@@ -26,12 +26,12 @@ pub const MUST_AGREE: usize = 4;
 pub struct Outcome {
     /// The model's answer with our functions.
     pub answer: Answer,
-    /// Its passes that waited for a diode, and its patterns that the option moved: where there is one the Rust, which knows neither
-    /// option, has no answer.
+    /// Its passes that waited for a diode, its patterns that the option moved, and its steps with a coil: where there is one the Rust,
+    /// which knows neither option nor coils, has no answer. At DC it has: there a coil is a V of 0.
     pub beyond: Beyond,
     /// How often a diode of it was in each situation.
     pub situations: Situations,
-    /// Demand 2's domain: not refused, nothing beyond the Rust, the Rust's own numbers, verdict 0, 20, 21 or 23.
+    /// Demand 2's domain: not refused, nothing beyond the Rust and no coil, the Rust's own numbers, verdict 0, 20, 21 or 23.
     pub domain: bool,
     /// Per pair: None where it was not compared.
     pub pairs: [Option<Vec<Difference>>; 5],
@@ -53,7 +53,7 @@ pub fn run(job: &Job) -> Outcome {
         pairs[1] = door.as_ref().map(|d| compare(job, d, &rust, scope));
         pairs[2] = Some(compare(job, &answer, &rust, scope));
         if job.own_numbers() {
-            domain = in_domain(answer.verdict);
+            domain = in_domain(answer.verdict) && beyond.coils.present == 0;
             let (library, further) = model::run_beyond(job, &LIBRARY, Wrong::Nothing);
             if in_domain(library.verdict) && further.none() {
                 let (seen, vector) = plain::run(job);

@@ -268,12 +268,17 @@ fn limits(sound: bool) -> Vec<Call> {
 
 /// The call of a seed and a place; one in six is damaged as a whole.
 pub fn call(seed: u64, place: u64) -> Call {
-    drawn(&mut Random::new(seed ^ 0x5350_5245_4144_5321, place), false)
+    drawn(&mut Random::new(seed ^ 0x5350_5245_4144_5321, place), false, generate::make)
 }
 
 /// The sound call of a seed and a place: likewise, with tolerances of every sort, and mostly circuits in which diodes are behind.
 pub fn sound_call(seed: u64, place: u64) -> Call {
-    drawn(&mut Random::new(seed ^ 0x534f_554e_4443_414c, place), true)
+    drawn(&mut Random::new(seed ^ 0x534f_554e_4443_414c, place), true, generate::make)
+}
+
+/// The call of a seed and a place with coils in its circuit; at odd places it is a sound call.
+pub fn coil_call(seed: u64, place: u64) -> Call {
+    drawn(&mut Random::new(seed ^ 0x5350_5245_434f_494c, place), place % 2 == 1, generate::wound)
 }
 
 /// The same two as the bench runs them. In one of three the option for patterns is on, and sources have become patterns that start
@@ -361,7 +366,96 @@ fn away(sound: bool) -> Vec<Call> {
     words.iter().map(|word| with(*word)).collect()
 }
 
-fn drawn(r: &mut Random, sound: bool) -> Call {
+/// Directed calls with coils, of both kinds: stored are those that are not sound calls.
+pub fn coil_directed() -> Vec<Call> {
+    [false, true].iter().flat_map(|sound| coil_calls(*sound)).collect()
+}
+
+/// One job of every sort that a coil can be in; a diode at the place of a coil that had a current; 256 coils; no coil but in the last
+/// job.
+pub fn coil_calls(sound: bool) -> Vec<Call> {
+    let of = |jobs: Vec<Job>, unknown: u64| {
+        let (nodes, sources) = (jobs[0].nodes, jobs[0].sources);
+        let (options, points) = (jobs[0].options, jobs[0].points.clone());
+        let sheets = jobs.iter().flat_map(|j| j.sheet.clone()).collect();
+        let tolerances = if sound { vec![1e-6; (nodes + sources) as usize] } else { Vec::new() };
+        let base = Call { sound, tolerances, ..Call::empty() };
+        let mut call = Call { jobs: jobs.len(), nodes, sources, unknown, options, sheets, points, ..base };
+        call.fit();
+        call
+    };
+    let with = |change: fn(&mut Options)| {
+        let mut jobs = coil_jobs();
+        jobs.iter_mut().for_each(|j| change(&mut j.options));
+        jobs
+    };
+    let last = |k: usize| Build::dc(2, 1).i(0, 1, 1.0).r(1, 0, 1.0 + k as f64);
+    let alone = |k: usize| if k == 8 { last(k).l(1, 0, 1.0, 0).job() } else { last(k).v(1, 0, k as f64, 0).job() };
+    let many = |k: usize| Build::dc(2, 1).i(0, 1, k as f64).r(1, 0, 1.0).l(1, 0, 0.5 * k as f64, 0).job();
+    vec![
+        of(coil_jobs(), 3),
+        of(coil_jobs(), 4),
+        of(coil_jobs(), 1),
+        of(with(|o| o.itl1 = 0), 3),
+        of(with(|o| o.budget = 1), 3),
+        of(with(|o| (o.catchup, o.pattern_first) = (1, 1)), 3),
+        of(after_coils(), 2),
+        of((0..MOST_JOBS).map(many).collect(), 2),
+        of((0..9).map(alone).collect(), 2),
+        of((0..9).rev().map(alone).collect(), 2),
+    ]
+}
+
+/// Nodes 3, sources 2, four records: coils that run, that are turned, in loops, at one node, at ground; sources in their place; coils
+/// that share a number in either order, or are damaged otherwise.
+fn coil_jobs() -> Vec<Job> {
+    let sheet = || Build::dc(3, 2).i(0, 1, 1.0).r(1, 2, 2.0);
+    let mut dirty = sheet().l(1, 0, 1.0, 0).l(2, 0, 1.0, 1).job();
+    dirty.sheet[3 * RECORD + 33] = 1;
+    let mut unknown = sheet().l(1, 0, 1.0, 0).l(2, 0, 1.0, 1).job();
+    unknown.sheet[2 * RECORD] = 13;
+    vec![
+        sheet().l(2, 0, 0.5, 0).r(2, 0, 1.0).job(),
+        sheet().l(0, 2, 0.5, 0).v(1, 0, 3.0, 1).job(),
+        sheet().v(2, 0, 0.25, 0).l(1, 0, 3.0, 1).job(),
+        sheet().l(1, 2, 1.0, 1).l(2, 0, 1.0, 0).job(),
+        sheet().l(1, 0, 1.0, 0).l(1, 0, 1.0, 1).job(),
+        sheet().l(1, 1, 1.0, 0).l(2, 0, 1.0, 1).job(),
+        sheet().l(0, 0, 1.0, 0).v(2, 0, 1.0, 1).job(),
+        sheet().v(2, 0, 1.0, 0).l(0, 0, 1.0, 1).job(),
+        sheet().v(2, 0, 1.0, 0).l(2, 0, 1.0, 1).job(),
+        sheet().l(2, 0, 1.0, 0).v(2, 0, 1.0, 1).job(),
+        sheet().v(2, 0, 1.0, 0).l(1, 0, 1.0, 0).job(),
+        sheet().l(2, 0, 1.0, 1).v(1, 0, 1.0, 1).job(),
+        sheet().l(2, 0, 1.0, 1).l(1, 0, 1.0, 1).job(),
+        sheet().l(2, 0, 1.0, 2).r(1, 0, 1.0).job(),
+        sheet().l(2, 3, 1.0, 0).r(1, 0, 1.0).job(),
+        sheet().v(2, 0, 1.0, 0).v(1, 0, 1.0, 0).job(),
+        dirty,
+        unknown,
+        sheet().l(2, 0, f64::NAN, 0).v(1, 0, 4.0, 1).job(),
+        sheet().l(2, 0, 0.0, 1).v(1, 0, 4.0, 0).job(),
+        sheet().d(2, 0, 1e-12, 27.0).l(1, 0, 1.0, 0).job(),
+    ]
+}
+
+/// A diode at the place where the job before it had a coil with 9 A. With a memory of 9 V it would settle a pass later, which is one
+/// too late.
+fn after_coils() -> Vec<Job> {
+    let of = |b: Build| {
+        let mut job = b.job();
+        (job.options.boltzmann, job.options.charge, job.options.itl1) = (1.0, 363.0, 2);
+        job
+    };
+    let coil = || of(Build::dc(2, 1).i(0, 1, 9.0).l(1, 0, 1.0, 0));
+    let diode = || of(Build::dc(2, 1).v(1, 0, 1.0, 0).d(1, 0, 10.0, 0.0));
+    vec![coil(), diode(), coil(), coil(), diode(), diode()]
+}
+
+/// A job of one sort, with coils or without.
+type Make = fn(&mut Random, Sort) -> Job;
+
+fn drawn(r: &mut Random, sound: bool, make: Make) -> Call {
     let sort = match r.below(20) {
         0..=7 => Sort::Sound,
         8..=12 => Sort::Round,
@@ -373,7 +467,7 @@ fn drawn(r: &mut Random, sound: bool) -> Call {
     };
     let sort = if sound && !r.one_in(3) { Sort::Clamped } else { sort };
     let plain = r.one_in(10);
-    let (job, unknown) = if plain { source(r) } else { circuit(r, sort, sound) };
+    let (job, unknown) = if plain { source(r) } else { circuit(r, sort, sound, make) };
     let jobs = count(r, job.nodes + job.sources);
     let sheets = if plain { levels(r, &job, jobs) } else { sheets(r, &job, jobs) };
     let (nodes, sources, options, points) = (job.nodes, job.sources, job.options, job.points);
@@ -419,9 +513,9 @@ fn tolerances(r: &mut Random, n: usize) -> Vec<f64> {
 }
 
 /// A circuit and an unknown of it: mostly one that settles, and there away from zero, so that sums and ties say something.
-fn circuit(r: &mut Random, sort: Sort, sound: bool) -> (Job, u64) {
+fn circuit(r: &mut Random, sort: Sort, sound: bool, make: Make) -> (Job, u64) {
     loop {
-        let mut job = generate::make(r, sort);
+        let mut job = make(r, sort);
         job.transient = false;
         if sound && !r.one_in(4) {
             generate::loosen(r, &mut job.options);
@@ -465,8 +559,13 @@ fn sheets(r: &mut Random, job: &Job, jobs: usize) -> Vec<u8> {
             2 => rewire(r, &mut other),
             _ => spread(r, &mut other, wide),
         }
+        // in a circuit without coils nothing is drawn for them
+        let coils = job.elements().iter().any(|e| e.is_coil());
         if faults > 0 && r.one_in(faults) {
             for _ in 0..1 + r.below(2) {
+                if coils && r.one_in(2) && generate::damage_coil(r, &mut other) {
+                    continue;
+                }
                 generate::damage_record(r, &mut other);
             }
         }

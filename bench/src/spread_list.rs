@@ -77,6 +77,7 @@ fn settled_kinds(call: &Call, runs: &[Answer], made: &Report) -> Vec<String> {
         (several && has(&[4]), "diodes"),
         (several && has(&[7]), "points"),
         (several && has(&[5, 6]), "sines"),
+        (several && has(&[COIL]), "coils"),
     ];
     found.iter().filter(|f| f.0).map(|f| f.1.to_string()).collect()
 }
@@ -97,6 +98,19 @@ fn tighten(call: &mut Call) {
     }
 }
 
+/// Writes the directed calls with coils in them.
+pub fn write_coils(path: &str) -> u64 {
+    let mut taken: Vec<(Call, Report)> = Vec::new();
+    let mut kinds = Tally::default();
+    for call in spread_calls::coil_calls(false) {
+        take(&mut taken, &mut kinds, call);
+    }
+    let bytes = calls_file(Form::Two, &taken);
+    println!("{}: {} calls, {} bytes; {}", path, taken.len(), bytes.len(), list::stored(path, &bytes));
+    println!("  calls with: {}", kinds.line());
+    0
+}
+
 /// Writes the list made from a seed.
 pub fn write(seed: u64, path: &str) -> u64 {
     let (taken, kinds) = taken(seed, spread_calls::directed(), spread_calls::call);
@@ -115,16 +129,21 @@ pub fn write_sound(seed: u64, path: &str) -> u64 {
     0
 }
 
+/// Takes a directed call.
+fn take(taken: &mut Vec<(Call, Report)>, kinds: &mut Tally, mut call: Call) {
+    tighten(&mut call);
+    assert!(fits(&call), "a directed call lends too much");
+    let (made, brings) = answered(&call);
+    brings.iter().for_each(|k| kinds.add(k));
+    taken.push((call, made));
+}
+
 /// The directed calls, and of the random ones those that bring something.
 fn taken(seed: u64, directed: Vec<Call>, draw: fn(u64, u64) -> Call) -> (Vec<(Call, Report)>, Tally) {
     let mut taken: Vec<(Call, Report)> = Vec::new();
     let mut kinds = Tally::default();
-    for mut call in directed {
-        tighten(&mut call);
-        assert!(fits(&call), "a directed call lends too much");
-        let (made, brings) = answered(&call);
-        brings.iter().for_each(|k| kinds.add(k));
-        taken.push((call, made));
+    for call in directed {
+        take(&mut taken, &mut kinds, call);
     }
     let mut long = false;
     for place in 0..20_000 {

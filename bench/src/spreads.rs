@@ -98,7 +98,7 @@ fn held(call: &Call) -> Outcome {
     Outcome { shipped, runs, beyond, differences }
 }
 
-/// One of the two calls: its name, its directed and its random calls, and the wrong readings of it.
+/// One of the calls: its name, its directed and its random calls, and the wrong readings of it.
 struct Kind {
     name: &'static str,
     directed: fn() -> Vec<Call>,
@@ -118,6 +118,12 @@ fn sound() -> Kind {
     Kind { name: "sound spreads", directed, call, slips: [&SLIPS[..], &SOUND_SLIPS].concat(), told: &SOUND_SLIPS }
 }
 
+/// Calls of either sort with coils in them.
+fn coils() -> Kind {
+    let (directed, call) = (spread_calls::coil_directed, spread_calls::coil_call);
+    Kind { name: "spreads with coils", directed, call, slips: SLIPS.to_vec(), told: &[] }
+}
+
 /// Whether a call that runs would tell a wrong reading.
 fn tells(call: &Call, runs: &[Answer], single: &Report, slip: Slip) -> bool {
     !compare(call, &report(call, runs, exact::judge, slip), single).is_empty()
@@ -135,6 +141,8 @@ struct Counts {
     /// Calls that run with the option `pattern_first` on, those that are answered in another way with it off, and their jobs with a
     /// pattern that it moves.
     first: [u64; 3],
+    /// Calls that run with a coil in a job that runs, and these jobs.
+    coils: [u64; 2],
     none_settled: u64,
     /// Calls whose smallest or largest stands more than once.
     ties: u64,
@@ -204,6 +212,9 @@ impl Counts {
             self.answered += (run.refusal == 0 && beyond.none()) as u64;
             self.waited += (beyond.held != 0) as u64;
         }
+        let coiled = o.beyond.iter().filter(|b| b.coils.present != 0).count() as u64;
+        self.coils[0] += (coiled > 0) as u64;
+        self.coils[1] += coiled;
     }
 
     fn tell(&self, kind: &Kind) {
@@ -227,6 +238,10 @@ impl Counts {
             "  calls that run with pattern_first on {}, of these answered in another way with it off {}; jobs with a pattern that it moves {}",
             on, other, moved
         );
+        let [calls, jobs] = self.coils;
+        if jobs > 0 {
+            println!("  calls that run with coils {}, jobs of them with coils that run {}", calls, jobs);
+        }
         let told: Vec<String> = kind.slips.iter().zip(&self.told).map(|(s, n)| format!("{:?} {}", s, n)).collect();
         println!("  so many calls would tell a wrong reading: {}", told.join(", "));
         for (side, name) in SIDES.iter().enumerate() {
@@ -239,12 +254,12 @@ impl Counts {
     }
 }
 
-/// Runs `calls` calls of either kind; answers how many differ.
+/// Runs `calls` calls of each kind; answers how many differ.
 pub fn run(seed: u64, calls: u64) -> u64 {
     if !door::LINKED {
         println!("spreads: no archive linked, the model's reports stand for its own");
     }
-    run_kind(&plain(), seed, calls) + run_kind(&sound(), seed, calls)
+    [plain(), sound(), coils()].iter().map(|kind| run_kind(kind, seed, calls)).sum()
 }
 
 fn run_kind(kind: &Kind, seed: u64, calls: u64) -> u64 {
@@ -360,9 +375,9 @@ fn tell(call: &Call) -> u64 {
     o.differences.iter().map(|d| d.len() as u64).sum()
 }
 
-/// One call of a seed, of either kind: its report, and what differs.
-pub fn show_one(seed: u64, place: u64, of_sound: bool) -> u64 {
-    let kind = if of_sound { sound() } else { plain() };
+/// One call of a seed, of one of the three kinds: its report, and what differs.
+pub fn show_one(seed: u64, place: u64, which: usize) -> u64 {
+    let kind = [plain, sound, coils][which]();
     println!("call {} of seed {} of {}", place, seed, kind.name);
     tell(&(kind.call)(seed, place))
 }

@@ -63,14 +63,7 @@ fn two_late() -> Build {
 
 /// Verdict, passes and the diode that is behind.
 fn ended(verdict: u64, passes: u64, behind: u64) -> Option<Expected> {
-    Some(Expected {
-        verdict,
-        passes: Some(passes),
-        behind: Some(behind),
-        near: None,
-        vector: Vec::new(),
-        rows: Vec::new(),
-    })
+    Some(Expected { verdict, passes: Some(passes), behind: Some(behind), ..Expected::default() })
 }
 
 /// The same with a number of the vector, to half a unit of its fourth decimal.
