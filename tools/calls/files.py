@@ -276,16 +276,16 @@ def sharing_inductors(one):
     """Source numbers that an inductor shares, and what is told before and behind that; bytes that an inductor does not use, and kinds that are none."""
     def numbered(s): return [voltage(1, 0, s, 1.0), record(6, 1, 0, source=s, floats=[0.0, 1.0, 1.0]), pattern(1, 0, s, 0, 1, 0.0, -1.0), vcvs(1, 0, 1, 0, s, 2.0), inductor(1, 0, s, 1.0)]
     def refused(name, says, *sheets): return one(name, '; '.join(f'refused {k}' for k in says), DOUBT, *[job(sheet, sources=2, points=POINT) for sheet in sheets])
-    *others, coil = numbered(0)
+    *others, inductor_record = numbered(0)
     v, ohm = others[0], resistor(1, 0, 1.0)
-    yield refused('inductor-shares', ['9 at 1'] * 9, *[[r, coil] for r in others], *[[coil, r] for r in others], [coil, coil])
+    yield refused('inductor-shares', ['9 at 1'] * 9, *[[r, inductor_record] for r in others], *[[inductor_record, r] for r in others], [inductor_record, inductor_record])
     yield one('inductor-alone', 'ended 0', SURE, job([v, v, numbered(1)[-1]], sources=2))
-    yield refused('inductor-shares-later', ['9 at 2', '9 at 3', '9 at 2', '9 at 1'], [v, v, coil], [coil, ohm, ohm, v], [numbered(1)[-1], coil, coil], [coil, coil, v])
+    yield refused('inductor-shares-later', ['9 at 2', '9 at 3', '9 at 2', '9 at 1'], [v, v, inductor_record], [inductor_record, ohm, ohm, v], [numbered(1)[-1], inductor_record, inductor_record], [inductor_record, inductor_record, v])
     far, beyond = resistor(2, 0, 1.0), pattern(1, 0, 0, 0, 2, 0.0, -1.0)
-    yield refused('inductor-shares-order', ['6 at 1', '7 at 1', '8 at 1', '9 at 1', '8 at 1', '9 at 0'], [coil, b'\0' + v[1:]], [coil, b'\3\1' + v[2:]], [coil, voltage(2, 0, 0, 1.0)], [coil, beyond], [coil, far, coil],
-                  [numbered(2)[-1], coil, coil])
+    yield refused('inductor-shares-order', ['6 at 1', '7 at 1', '8 at 1', '9 at 1', '8 at 1', '9 at 0'], [inductor_record, b'\0' + v[1:]], [inductor_record, b'\3\1' + v[2:]], [inductor_record, voltage(2, 0, 0, 1.0)], [inductor_record, beyond], [inductor_record, far, inductor_record],
+                  [numbered(2)[-1], inductor_record, inductor_record])
     unused = [1, *range(6, 10), *range(12, 16), *range(24, 40)]
-    yield refused('inductor-unused', ['7 at 0'] * len(unused), *[[coil[:at] + b'\1' + coil[at + 1:]] for at in unused])
+    yield refused('inductor-unused', ['7 at 0'] * len(unused), *[[inductor_record[:at] + b'\1' + inductor_record[at + 1:]] for at in unused])
     yield refused('inductor-numbers', ['8 at 0', '8 at 0', '9 at 0', '9 at 0'], [inductor(2, 0, 0, 1.0)], [inductor(0, 2, 0, 1.0)], [numbered(2)[-1]], [numbered(256)[-1]])
     yield refused('kinds', ['6 at 1'] * 5, *[[ohm, record(kind, 1, 0)] for kind in (0, 12, 13, 128, 255)])
 

@@ -163,11 +163,11 @@ def ramp_spreads():
 def inductors():
     """An inductor at DC, settled and with too few passes; behind such a DC; behind half an ohm and across a source alone; with a step that is cut, and with steps that are doubled; with a source number that it shares; from ground to ground."""
     cut = dict(rise=0.25, reltol=0.9, itl=(10, 0, 1), ft=0.5, tstop=0.25)
-    v, coil = calls.voltage(1, 0, 0, 1.0), calls.inductor(1, 0, 0, 1.0)
+    v, inductor_record = calls.voltage(1, 0, 0, 1.0), calls.inductor(1, 0, 0, 1.0)
     ground = [calls.voltage(1, 0, 1, 1.0), calls.resistor(1, 0, 1.0), calls.inductor(0, 0, 0, 1.0)]
     all = [calls.job(calls.SHORT, sources=1, tolerances=[0.0] * 3), calls.job(calls.SHORT, sources=1, itl=(0, 0, 10))]
     all += [calls.job(calls.SHORT_BESIDE, nodes=3, sources=2, itl=(0, 0, 10), transient=True, rows=9), calls.choke(0.5, 1.0, tolerances=[0.0] * 5), calls.choke(49.0, 3.0, ohm=0)]
-    all += [calls.choke(0.25, 1.0, **cut), calls.choke(0.5, 1.0, itl=(10, 5, 10), tstop=9.0), calls.job([v, v, coil], sources=1), calls.job(ground, sources=2, transient=True, rows=9)]
+    all += [calls.choke(0.25, 1.0, **cut), calls.choke(0.5, 1.0, itl=(10, 5, 10), tstop=9.0), calls.job([v, v, inductor_record], sources=1), calls.job(ground, sources=2, transient=True, rows=9)]
     return calls.jobs(*[calls.form2(j, JOB) for j in all], form=2)
 
 

@@ -183,20 +183,20 @@ fn an_inductor_shares_its_number_with_no_record() {
         Dc::Refused { refusal, .. } => panic!("{refusal}"),
         Dc::Ended { .. } => None,
     };
-    let coil = 4;
+    let inductor = 4;
     for a in 0..5 {
         for b in 0..5 {
-            let shared = if a == coil || b == coil { Some(1) } else { None };
+            let shared = if a == inductor || b == inductor { Some(1) } else { None };
             assert_eq!(place(&[with(0)[a], with(0)[b]]), shared);
             assert_eq!(place(&[with(0)[a], with(1)[b]]), None);
         }
     }
     let [v, .., l] = with(0);
     let resistor = Record::R { p: 1, n: 0, value: 1.0 };
-    assert_eq!(place(&[v, v, with(1)[coil]]), None);
+    assert_eq!(place(&[v, v, with(1)[inductor]]), None);
     assert_eq!(place(&[v, v, l]), Some(2));
     assert_eq!(place(&[l, resistor, resistor, v]), Some(3));
-    assert_eq!(place(&[with(2)[coil], l, l]), Some(0)); // not below the source count
+    assert_eq!(place(&[with(2)[inductor], l, l]), Some(0)); // not below the source count
 }
 
 /// A diode behind 1 kOhm.
