@@ -54,7 +54,7 @@ fn vector(first: u64) -> [f64; jobs::VECTOR]
     x
 }
 
-// The diodes' memory as it is lent.
+// The memory as it is lent.
 fn memory(first: u64) -> [f64; jobs::MEMORY]
     ensures { λ r. ⌜ 264 ≡ length r ⌝ }
 {

@@ -27,7 +27,7 @@ linearOf p sheet points base x y m =
     let a = independentOf p sheet points (copied base m) in
     cond (eqb (a .code) 0) (drivenOf 0 (completed p sheet x y (a .matrix))) a
 
--- "Each pass adds independent, dependent, storage (transient) and diode stamps", until one ends it by 26 or 22; v is the last solved vector
+-- "Each pass adds independent, dependent, storage (transient) and diode stamps", and inductors are stamped at DC too, until one ends it by 26 or 22; v is the last solved vector
 unfoldable pub stampOf : Options → Pass → List ℕ → List ℕ → List Float → List Float → List Float → List Float → List Float → Stamped
 stampOf o p sheet points base x v y m =
     let l = linearOf p sheet points base x y m in

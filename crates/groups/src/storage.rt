@@ -18,8 +18,20 @@ ghost use Rattle.stamps.specs.Write.{stamped};
 ghost use Rattle.groups.specs.Records.{onRecord};
 ghost use Rattle.groups.specs.Storage.{capacitorIn, inductorIn, storageWrites, storedAt, storageOf, currentIn, withCurrent, takenOf, inductorAmong};
 
-// Stamps C and L, in the order of the records; x is the last accepted vector.
+// Stamps C and L, in the order of the records; x is the last accepted vector. At DC a sheet without inductors writes nothing, and is not walked.
 pub fn stamp_storage(p: Pass, sheet: &[u8], x: &[f64], memory: &[f64], m: &mut [f64])
+    ensures { λ _. ⌜ now (m .exit) ≡ storageOf p (now (x .entry)) (now (memory .entry)) (now (sheet .entry)) (now (m .entry)) ⌝ }
+{
+    if !p.transient {
+        if !has_inductors(sheet) {
+            return;
+        }
+    }
+    stamp_stored(p, sheet, x, memory, m);
+}
+
+// The same, record by record.
+fn stamp_stored(p: Pass, sheet: &[u8], x: &[f64], memory: &[f64], m: &mut [f64])
     ensures { λ _. ⌜ now (m .exit) ≡ storageOf p (now (x .entry)) (now (memory .entry)) (now (sheet .entry)) (now (m .entry)) ⌝ }
 {
     let count = sheet::records(sheet);
@@ -136,14 +148,14 @@ fn current_in(
     number_at(v, sheet::row_of(p.nodes, source))
 }
 
-// Whether a sheet has a record of an inductor's kind. A run asks once, so that a circuit without any is not walked at each accepted step.
+// Whether a sheet has a record of an inductor's kind. A run asks once, so that a circuit without any is not walked at each accepted step. It looks at kind bytes alone and cuts no record out.
 pub fn has_inductors(sheet: &[u8]) -> bool
     ensures { λ r. ⌜ r ≡ inductorAmong (now (sheet .entry)) (recordsOf (now (sheet .entry))) ⌝ }
 {
     let count = sheet::records(sheet);
     let mut found = false;
     for i in 0..count {
-        found = found | (sheet::kind_at(sheet, i) == kind::INDUCTOR);
+        found = found | (sheet[sheet::RECORD * i] == kind::INDUCTOR);
     }
     found
 }

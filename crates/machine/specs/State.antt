@@ -22,7 +22,7 @@ buffersOf b s v m r = record { base = b; system = s; vector = v; memory = m; row
 
 pub record State : Type 0 where
   pub counters : Counters
-  -- the last accepted vector, at which storage elements look
+  -- the last accepted vector, at which capacitors look
   pub accepted : List Float
   pub buffers : Buffers
 

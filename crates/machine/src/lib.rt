@@ -63,7 +63,7 @@ pub fn takes(j: Job, c: Counters, r: Report) -> bool
     accepts(r)
 }
 
-// The vector of an accepted step becomes the accepted one. DC accepts none, so that storage elements start from zeros.
+// The vector of an accepted step becomes the accepted one. DC accepts none, so that capacitors start from zeros.
 pub fn accept(report: Report, c: Counters, accepted: &mut [f64], vector: &[f64])
     ensures { λ _. ⌜ now (accepted .exit) ≡ acceptedBy report c (now (accepted .entry)) (now (vector .entry)) ⌝ }
 {

@@ -5,7 +5,6 @@ use mathlib.Core.Bool.{Bool, true, false, cond}
 use mathlib.Core.List.{List, []}
 use lib.ListN.{length, getD}
 use lib.Ieee.{Float, nan}
-use Rattle.numbers.specs.Kinds.{diode, inductor}
 use borrow.Author.Tests.{ne-eqb, eqb-true, eqb-false, ltb-true}
 use native.Mathlib.Omega.{arith}
 use lib.Dec.{eqb, ltb}
@@ -25,18 +24,19 @@ use Rattle.behind.specs.Behind.{behindNumber}
 use Rattle.machine.specs.laws.Budget.{pass-dc, pass-step}
 use Rattle.groups.specs.declared.Pass.{Pass}
 use Rattle.groups.specs.Sources.{Driven, drivenOf}
-use Rattle.groups.specs.Diodes.{Stamped, stampedOf, diodesOf}
+use Rattle.groups.specs.Diodes.{stampedOf, diodesOf}
 use Rattle.groups.specs.Storage.{takenOf}
 use Rattle.groups.specs.Listed.{Listed}
 use Rattle.groups.specs.Stamping.{linearOf, stampOf}
 use Rattle.groups.specs.laws.Listed.{no-diodes}
 use Rattle.groups.specs.laws.Stamping.{diodes-leave}
-use Rattle.groups.specs.laws.Storage.{Currents, linear-same}
+use Rattle.groups.specs.laws.Storage.{Currents, linear-same, no-diode}
 use Rattle.solve.specs.Solve.{Solved, solvedAs, solution, solveOf}
 use Rattle.solve.specs.laws.Solve.{solution-length, solves-whole}
-use Rattle.machine.specs.State.{Solved as Left, State, buffersOf, stateOf, Tried, triedOf, Written, writtenOf}
+use Rattle.machine.specs.State.{State, buffersOf, stateOf, Tried, triedOf, Written, writtenOf}
 use Rattle.machine.specs.Machine.{before, compared, tried, takes, took, landed, after, accepts, dcPass, stepPass, pass}
-use Rattle.passes.specs.Attempt.{Circuit, passOf, solvedFrom, attemptOf}
+use Rattle.passes.specs.Attempt.{Circuit, passOf, attemptOf}
+use Rattle.passes.specs.laws.Attempt.{solved-memory}
 use Rattle.passes.specs.Sized.{Square}
 use Rattle.passes.specs.Again.{linearAt, failureOf, finished, bare, Holder, Holds, memoryAfter}
 use Rattle.passes.specs.Done.{dcDone, stepDone, Aftermath, aftermathOf, aftermath}
@@ -54,17 +54,6 @@ module _ (j : Job) (r : ℕ) (first : Bool) (m x v m′ x′ v₁ v₂ : List Fl
       rw (reports, checks, copies, s, cleared, w)
 
 -- ---- an attempt, from its calls
-
--- a pass leaves the memory that was stamped, solved or not
-solved-memory : (n : ℕ) (t : Stamped) (sys vec : List Float) → solvedFrom n t sys vec .memory ≡ t .memory
-solved-memory n t sys vec = go (eqb (t .code) 0) _ _ refl refl
-  where
-    go : (b : Bool) (p q : Left) → p .memory ≡ t .memory → q .memory ≡ t .memory → cond b p q .memory ≡ t .memory
-    go true p q e f = e
-    go false p q e f = f
-
-inductor-no-diode : inductor ≡ diode → ⊥
-inductor-no-diode h = omega (arith, h)
 
 -- stamping starts from a copy of the base, whatever stood in the matrix
 pub linear-anew : (p : Pass) (sheet points : List ℕ) (base x y m : List Float) → length base ≡ length m → linearOf p sheet points base x y m ≡ linearOf p sheet points base x y base
@@ -133,7 +122,7 @@ module _ (k : Circuit) (c : Counters) (acc base sys vec mem : List Float) where
       let o = k .job .options in
       let t = diodesOf o (k .sheet) (length vec) vec m mem in
       let q : y ≡ t .memory = ap (λ (t : Tried). t .memory) e ∙ solved-memory (length vec) t sys vec in
-      sym (ap (λ (y : List Float). getD y i nan) q ∙ diodes-leave o (k .sheet) (length vec) vec i (λ z. inductor-no-diode (sym h ∙ z)) m mem)
+      sym (ap (λ (y : List Float). getD y i nan) q ∙ diodes-leave o (k .sheet) (length vec) vec i (λ z. no-diode (sym h ∙ z)) m mem)
 
   -- what a pass from the matrix m on leaves for the next
   pub leaves : (places : List ℕ) (r : Report) (m held s v y : List Float) → Holder (k .sheet) places (length base) (length held) → length vec ≡ k .order → drivenOf 0 m ≡ linearAt k c acc base mem

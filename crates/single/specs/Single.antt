@@ -1,4 +1,4 @@
--- One job by itself: the engine's own DC run on its sheet, with buffers that hold zeros, the diode memory among them. Clients cite Mark, dcCall, Marked, markedOf, markedRun, Single, singleOf, alone, single and jobSizes.
+-- One job by itself: the engine's own DC run on its sheet, with buffers that hold zeros, the memory among them. Clients cite Mark, dcCall, Marked, markedOf, markedRun, Single, singleOf, alone, single and jobSizes.
 use Prim.Native.Nat.{ℕ, _+_, _*_, _/_}
 use mathlib.Core.Bool.{false}
 use mathlib.Core.List.{List, []}

@@ -1,5 +1,5 @@
 // All spreads in one call: up to 256 DC jobs with the same counts, options, points and budget, their sheets end to end, and a report over them. Each job is what it is by itself,
-// with fresh diode memory; the report counts the jobs by their numbers and follows one chosen unknown over the settled ones. What is answered and left is `spreadsOf` in
+// with fresh memory; the report counts the jobs by their numbers and follows one chosen unknown over the settled ones. What is answered and left is `spreadsOf` in
 // specs/Spreads.antt, for all input.
 pub mod refusals; // refusals.rt: 13, then 1 to 5 for the whole call
 mod runs; // runs.rt: the jobs, one after the other

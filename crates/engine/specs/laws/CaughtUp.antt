@@ -10,7 +10,6 @@ use native.Mathlib.Omega.{arith}
 use lib.Dec.{eqb}
 use lib.ListN.{take}
 use lib.Ieee.{Float}
-use Rattle.numbers.specs.Kinds.{diode, inductor}
 use Rattle.numbers.specs.Verdicts.{settled, budgetSpent}
 use Rattle.options.specs.declared.Options.{Options}
 use Rattle.options.specs.Switch.{on}
@@ -18,7 +17,7 @@ use Rattle.sheet.specs.declared.Checked.{Checked}
 use Rattle.sheet.specs.declared.Checked.the-variants.{Clean, Faulty}
 use Rattle.checks.specs.Checks.{order, records, badCounts, sizesRefusal, checkedOf}
 use Rattle.checks.specs.laws.Checks.{fine, clean-fine}
-use Rattle.groups.specs.laws.Storage.{taken-elsewhere}
+use Rattle.groups.specs.laws.Storage.{no-diode, taken-elsewhere}
 use Rattle.behind.specs.Behind.{behindNumber}
 use Rattle.behind.specs.laws.Same.{number-same}
 use Rattle.steps.specs.declared.Counters.{Counters}
@@ -43,9 +42,6 @@ use Rattle.engine.specs.laws.Numbers.{refused-numbers, ended-numbers}
 
 -- ---- a pass that says "yes"
 
-diode-no-inductor : diode ≡ inductor → ⊥
-diode-no-inductor h = omega (arith, h)
-
 module _ (k : Circuit) (on : on (k .job .options .catchup) ≡ true) where
   -- no diode is behind in what it leaves
   yes-caught : (s : State) → triedBy (attemptOf k) (k .job) s .report ≡ Yes
@@ -56,7 +52,7 @@ module _ (k : Circuit) (on : on (k .job .options .catchup) ≡ true) where
       let a = attemptOf k (s .counters) (s .accepted) (s .buffers) in
       let caught : behindNumber o (k .sheet) (a .vector) (a .memory) ≡ 0 = waited-caught o _ on _ e in
       holds-of-both (attemptOf k) (k .job) s (λ (m : List Float). behindNumber o (k .sheet) (a .vector) m ≡ 0) caught
-      (number-same (k .sheet) (a .vector) (a .taken) (a .memory) (λ i h. taken-elsewhere (passOf (k .job) (k .order) (s .counters)) (k .sheet) (a .vector) i (λ q. diode-no-inductor (sym h ∙ q)) (a .memory)) o ∙ caught)
+      (number-same (k .sheet) (a .vector) (a .taken) (a .memory) (λ i h. taken-elsewhere (passOf (k .job) (k .order) (s .counters)) (k .sheet) (a .vector) i (λ q. no-diode (sym q ∙ h)) (a .memory)) o ∙ caught)
 
   accepted-yes : (r : Report) → accepts r ≡ true → r ≡ Yes
   accepted-yes Yes h = refl

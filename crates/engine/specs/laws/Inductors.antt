@@ -1,15 +1,21 @@
--- What is promised of inductors, pass by pass of a run at its real stamping and solving: where a step is accepted the current is the formula's, where DC has ended it is the unknown of DC's vector, and in every other pass it
--- stays, so also in a step that is rejected. In a circuit without inductors a pass is what it was before there were any. Clients cite all that is `pub`. Assumes nothing.
-use Prim.Native.Nat.{ℕ, _<_}
-use mathlib.Core.Path.{_≡_, refl, sym, ap, _∙_}
-use mathlib.Core.Bool.{Bool, true, false, cond, not}
+-- What is promised of inductors, pass by pass of a run at its real stamping and solving: a run begins with a current of 0.0; where a step is accepted the current is the formula's, where DC has ended with 0, 20 or 21 it is the
+-- unknown of DC's vector, and in every other pass it stays, so also in a step that is rejected. In a circuit without inductors a pass takes nothing; that it stamps what it stamped before there were any is `as-before` of groups,
+-- that its sheet is checked as before `without-inductors` of sheet. Clients cite all that is `pub`. Assumes nothing.
+use Prim.Native.Nat.{ℕ, zero, suc, _<_}
+use mathlib.Core.Path.{_≡_, refl, sym, ap, subst, _∙_}
+use mathlib.Core.Bool.{Bool, true, false, cond, false≢true}
 use mathlib.Core.List.{List}
+use native.Mathlib.Nat.{not-suc-le-zero}
 use native.Mathlib.Omega.{arith}
-use borrow.Author.Tests.{eq-eqb, ne-eqb}
+use borrow.Author.Tests.{eqb-true, eqb-false, eq-eqb, ne-eqb}
 use lib.Dec.{eqb}
-use lib.ListN.{length, getD}
+use lib.ListN.{length, getD, set, length-set}
+use lib.Seq.{getD-set-same, getD-set-other}
 use lib.Ieee.{Float, nan}
-use Rattle.numbers.specs.Kinds.{diode, inductor}
+use Rattle.numbers.specs.Kinds.{inductor}
+use Rattle.num.specs.Floats.{nought}
+use Rattle.loops.specs.Loop.{turns}
+use Rattle.loops.specs.laws.Loop.{turns-inv}
 use Rattle.sheet.specs.declared.NodeId.{NodeId}
 use Rattle.sheet.specs.declared.SourceId.{SourceId}
 use Rattle.sheet.specs.declared.Element.the-variants.{L}
@@ -20,21 +26,19 @@ use Rattle.sheet.specs.laws.Kind.{kind-at}
 use Rattle.sheet.specs.Row.{rowOf}
 use Rattle.sheet.specs.Check.{recordsOf}
 use Rattle.models.specs.Inductor.{currentAfter}
-use Rattle.groups.specs.declared.Pass.{Pass}
 use Rattle.groups.specs.Records.{elementAt, across}
-use Rattle.groups.specs.Storage.{currentIn, takenOf, inductorAmong}
-use Rattle.groups.specs.Diodes.{Stamped}
-use Rattle.groups.specs.Stamping.{stampOf}
+use Rattle.groups.specs.Storage.{currentIn, inductorAmong}
 use Rattle.groups.specs.laws.Stamping.{fine, memory-stays}
-use Rattle.groups.specs.laws.Storage.{taken-here, nothing-taken}
+use Rattle.groups.specs.laws.Storage.{no-diode, taken-here, nothing-taken}
 use Rattle.steps.specs.Phases.{dcPhase, transientPhase}
-use Rattle.steps.specs.declared.Job.{Job}
-use Rattle.machine.specs.State.{Solved, State, Attempted}
+use Rattle.machine.specs.State.{State, Attempted}
 use Rattle.machine.specs.Machine.{compared, tried, accepts, took, triedBy, dcPass, stepPass, pass}
 use Rattle.machine.specs.laws.Budget.{pass-dc, pass-step}
 use Rattle.machine.specs.laws.Taken as machine
 use Rattle.machine.specs.laws.Taken.{DcEnds}
-use Rattle.passes.specs.Attempt.{Circuit, passOf, solvedFrom, attemptOf}
+use Rattle.passes.specs.Attempt.{Circuit, passOf, attemptOf}
+use Rattle.passes.specs.laws.Attempt.{attempt-memory}
+use Rattle.engine.specs.Begin.{remembers, forgetAt, forgotten}
 
 -- the vector after a pass is the one that was solved
 module _ (k : Circuit) (s : State) where
@@ -62,27 +66,15 @@ module _ (k : Circuit) (s : State) where
     abbrev before : Float
     before = getD (s .buffers .memory) i nan
 
-    no-diode : kindAt (k .sheet) i ≡ diode → ⊥
-    unfolding kindOf
-    no-diode h = omega (arith, sym (kind-at (k .sheet) i (L a b henries n) here) ∙ h)
-
     -- an attempt leaves its current
     attempt-leaves : getD (solved .memory) i nan ≡ before
-    unfolding attemptOf
-    attempt-leaves = go (eqb (stamps .code) 0) _ _ kept kept
-      where
-        p : Pass
-        p = passOf (k .job) (k .order) (s .counters)
-
-        stamps : Stamped
-        stamps = stampOf (k .job .options) p (k .sheet) (k .points) (s .buffers .base) (s .accepted) (s .buffers .vector) (s .buffers .memory) (s .buffers .base)
-
-        kept : getD (stamps .memory) i nan ≡ before
-        kept = memory-stays (k .job .options) p (k .sheet) (k .points) (s .buffers .base) (s .accepted) (s .buffers .vector) (s .buffers .memory) (s .buffers .base) i no-diode
-
-        go : (t : Bool) (u v : Solved) → getD (u .memory) i nan ≡ before → getD (v .memory) i nan ≡ before → getD (cond t u v .memory) i nan ≡ before
-        go true u v p q = p
-        go false u v p q = q
+    unfolding kindOf
+    attempt-leaves =
+        let o = k .job .options in
+        let p = passOf (k .job) (k .order) (s .counters) in
+        let x = s .buffers in
+        ap (λ (y : List Float). getD y i nan) (attempt-memory k (s .counters) (s .accepted) x)
+        ∙ memory-stays o p (k .sheet) (k .points) (x .base) (s .accepted) (x .vector) (x .memory) (x .base) i (λ h. no-diode (sym (kind-at (k .sheet) i (L a b henries n) here) ∙ h))
 
     -- a step that is not accepted, whether it goes on, is cut or ends the run, moves nothing
     pub rejected-keeps : s .counters .phase ≡ transientPhase → accepts (triedBy (attemptOf k) (k .job) s .report) ≡ false → getD (passed .buffers .memory) i nan ≡ before
@@ -94,21 +86,11 @@ module _ (k : Circuit) (s : State) where
 
     module _ (room : i < recordsOf (k .sheet)) (lent : i < length (s .buffers .memory)) where
       long : length (solved .memory) ≡ length (s .buffers .memory)
-      unfolding attemptOf
-      long = go (eqb (stamps .code) 0) _ _ kept kept
-        where
-          p : Pass
-          p = passOf (k .job) (k .order) (s .counters)
-
-          stamps : Stamped
-          stamps = stampOf (k .job .options) p (k .sheet) (k .points) (s .buffers .base) (s .accepted) (s .buffers .vector) (s .buffers .memory) (s .buffers .base)
-
-          kept : length (stamps .memory) ≡ length (s .buffers .memory)
-          kept = fine (k .job .options) p (k .sheet) (k .points) (s .buffers .base) (s .accepted) (s .buffers .vector) (s .buffers .memory) (s .buffers .base) .memory-length
-
-          go : (t : Bool) (u v : Solved) → length (u .memory) ≡ length (s .buffers .memory) → length (v .memory) ≡ length (s .buffers .memory) → length (cond t u v .memory) ≡ length (s .buffers .memory)
-          go true u v p q = p
-          go false u v p q = q
+      long =
+          let p = passOf (k .job) (k .order) (s .counters) in
+          let x = s .buffers in
+          ap length (attempt-memory k (s .counters) (s .accepted) x)
+          ∙ fine (k .job .options) p (k .sheet) (k .points) (x .base) (s .accepted) (x .vector) (x .memory) (x .base) .memory-length
 
       -- what it takes, where the vector is taken
       takes-its : getD (solved .taken) i nan ≡ currentIn (passOf (k .job) (k .order) (s .counters)) (solved .vector) (a .0) (b .0) henries n before
@@ -144,3 +126,37 @@ module _ (k : Circuit) (s : State) where
   -- a pass takes nothing: it is the attempt with its report, as before there were inductors
   pub plain-pass : inductorAmong (k .sheet) (recordsOf (k .sheet)) ≡ false → triedBy (attemptOf k) (k .job) s ≡ tried (attemptOf k) (k .job) (s .counters) (s .accepted) (s .buffers)
   plain-pass h = machine.nothing-taken (attemptOf k) (k .job) s (none-taken h)
+
+-- ---- as a run begins
+
+-- the first k records put to 0.0 what they remember
+module _ (sheet : List ℕ) (i : ℕ) (kind : kindAt sheet i ≡ inductor) where
+  forgets : (b : Bool) (y : List Float) → remembers (kindAt sheet i) ≡ b → i < length y → getD (cond b (set y i nought) y) i nan ≡ nought
+  forgets true y e l = getD-set-same y i nought nan l
+  forgets false y e l = absurd (false≢true (sym e ∙ rw kind))
+
+  long-still : (k : ℕ) (y : List Float) → length (turns k (forgetAt sheet) y) ≡ length y
+  long-still k y = turns-inv (λ (z : List Float). length z ≡ length y) (forgetAt sheet) k y refl (λ j l z h. go (remembers (kindAt sheet j)) j z h)
+    where
+      go : (b : Bool) (j : ℕ) (z : List Float) → length z ≡ length y → length (cond b (set z j nought) z) ≡ length y
+      go true j z h = length-set z j nought ∙ h
+      go false j z h = h
+
+  zero-there : (k : ℕ) (y : List Float) → i < length y → i < k → getD (turns k (forgetAt sheet) y) i nan ≡ nought
+  zero-there zero y l h = absurd (not-suc-le-zero h)
+  zero-there (suc k) y l h = by-place (zero-there k y l) (eqb i k) refl (remembers (kindAt sheet k)) refl
+    where
+      z : List Float
+      z = turns k (forgetAt sheet) y
+
+      by-place : (i < k → getD z i nan ≡ nought) → (q : Bool) → eqb i k ≡ q → (b : Bool) → remembers (kindAt sheet k) ≡ b → getD (cond b (set z k nought) z) i nan ≡ nought
+      by-place more true e b f =
+          let p : i ≡ k = eqb-true i k e in
+          subst (λ (n : ℕ). getD (cond b (set z n nought) z) i nan ≡ nought) p (forgets b z (ap (λ (n : ℕ). remembers (kindAt sheet n)) p ∙ f) (rw (long-still k y) l))
+      by-place more false e true f = getD-set-other z k i nought nan (eqb-false i k e) ∙ more (omega (arith, h, eqb-false i k e))
+      by-place more false e false f = more (omega (arith, h, eqb-false i k e))
+
+  -- whatever the caller left in its place, a run begins with a current of 0.0
+  pub begins-at-zero : (y : List Float) → i < length y → getD (forgotten sheet y) i nan ≡ nought
+  unfolding forgotten
+  begins-at-zero y l = zero-there (length y) y l l

@@ -27,7 +27,7 @@ use Rattle.machine.specs.State.{Buffers, buffersOf, State, Solved}
 use Rattle.machine.specs.Machine.{compared, tried, took, triedBy, accepts, dcPass, stepPass, pass, runFor}
 use Rattle.machine.specs.laws.Taken.{holds-of-both}
 use Rattle.passes.specs.Attempt.{Circuit, passOf, attemptOf}
-use Rattle.passes.specs.laws.Attempt.{steady}
+use Rattle.passes.specs.laws.Attempt.{steady, attempt-memory}
 use Rattle.engine.specs.Begin.{remembers, forgetAt, forgotten}
 use Rattle.engine.specs.Work.{zeros, baseOn, startOf, endOf}
 use Rattle.engine.specs.Engine.{Call, sizes, circuit, lastOf}
@@ -65,9 +65,8 @@ module _ (k : Circuit) (y : List Float) where
         go true u v p q = p
         go false u v p q = q
 
-    attempt-memory : Own (k .sheet) y (attemptOf k c a x .memory)
-    unfolding attemptOf
-    attempt-memory = go (eqb (stampOf (k .job .options) p (k .sheet) (k .points) (x .base) a (x .vector) (x .memory) (x .base) .code) 0) _ _ kept kept
+    attempt-own : Own (k .sheet) y (attemptOf k c a x .memory)
+    attempt-own = rw (attempt-memory k c a x) kept
       where
         p : Pass
         p = passOf (k .job) (k .order) c
@@ -79,10 +78,6 @@ module _ (k : Circuit) (y : List Float) where
               others = λ i o q. memory-stays (k .job .options) p (k .sheet) (k .points) (x .base) a (x .vector) (x .memory) (x .base) i o ∙ h .memory .others i o q;
             }
 
-        go : (b : Bool) (u v : Solved) → Own (k .sheet) y (u .memory) → Own (k .sheet) y (v .memory) → Own (k .sheet) y (cond b u v .memory)
-        go true u v p q = p
-        go false u v p q = q
-
     -- and so do the currents that inductors take
     attempt-taken : Own (k .sheet) y (attemptOf k c a x .taken)
     unfolding attemptOf
@@ -90,8 +85,8 @@ module _ (k : Circuit) (y : List Float) where
         let z = attemptOf k c a x in
         let p = passOf (k .job) (k .order) c in
         record {
-          long = taken-length p (k .sheet) (z .vector) (z .memory) ∙ attempt-memory .long;
-          others = λ i o q. taken-elsewhere p (k .sheet) (z .vector) i q (z .memory) ∙ attempt-memory .others i o q;
+          long = taken-length p (k .sheet) (z .vector) (z .memory) ∙ attempt-own .long;
+          others = λ i o q. taken-elsewhere p (k .sheet) (z .vector) i q (z .memory) ∙ attempt-own .others i o q;
         }
 
   -- ---- a pass, and a run
@@ -104,7 +99,7 @@ module _ (k : Circuit) (y : List Float) where
           base = h .base;
           system = attempt-system (s .counters) (s .accepted) (s .buffers) h;
           vector = steady k (s .counters) (s .accepted) (s .buffers) (h .vector);
-          memory = holds-of-both (attemptOf k) j s (Own (k .sheet) y) (attempt-memory (s .counters) (s .accepted) (s .buffers) h) (attempt-taken (s .counters) (s .accepted) (s .buffers) h);
+          memory = holds-of-both (attemptOf k) j s (Own (k .sheet) y) (attempt-own (s .counters) (s .accepted) (s .buffers) h) (attempt-taken (s .counters) (s .accepted) (s .buffers) h);
         }
 
     pass-held : (s : State) → Holds (s .buffers) → Holds (pass (attemptOf k) j s .buffers)

@@ -11,9 +11,9 @@ use lib.Dec.{eqb}
 use lib.ListN.{length, getD, set, length-set}
 use lib.Seq.{getD-set-other, getD-set-same}
 use lib.Ieee.{Float, nan}
-use Rattle.numbers.specs.Kinds.{inductor}
+use Rattle.numbers.specs.Kinds.{diode, inductor}
 use Rattle.loops.specs.Loop.{turns}
-use Rattle.loops.specs.laws.Loop.{turns-inv}
+use Rattle.loops.specs.laws.Loop.{either-same, turns-inv}
 use Rattle.sheet.specs.declared.NodeId.{NodeId}
 use Rattle.sheet.specs.declared.SourceId.{SourceId}
 use Rattle.sheet.specs.declared.Element.{Element}
@@ -34,10 +34,6 @@ use Rattle.groups.specs.Storage.{capacitorIn, storageWrites, storageOf, 
 use Rattle.groups.specs.Stamping.{completed, linearOf}
 use Rattle.groups.specs.laws.Passing.{apart, passed-by}
 use Rattle.groups.specs.laws.Quiet.{silent-storage, quiet-currents}
-
-either-same : {A : Type 0} {x : A} (b : Bool) → cond b x x ≡ x
-either-same true = refl
-either-same false = refl
 
 -- a pass may go by the kind byte
 pub stored-same : (p : Pass) (x y : List Float) (sheet : List ℕ) (i : ℕ) → onRecord (storageWrites p x y i) [] (storedAt (p .transient) sheet i) ≡ onRecord (storageWrites p x y i) [] (elementAt sheet i)
@@ -82,6 +78,10 @@ module _ (p : Pass) (x : List Float) (sheet : List ℕ) (y z : List Float) (same
   pub linear-same : (points : List ℕ) (base m : List Float) → linearOf p sheet points base x y m ≡ linearOf p sheet points base x z m
   unfolding linearOf completed
   linear-same points base m = rw storage-same
+
+-- an inductor is no diode
+pub no-diode : inductor ≡ diode → ⊥
+no-diode h = omega (arith, h)
 
 -- ---- what an inductor takes
 
@@ -236,6 +236,11 @@ module _ (p : Pass) (x y : List Float) (sheet : List ℕ) where
           ≡ cond (p .transient) (writesOf (λ _. formerWrites (p .order) x (p .step)) sheet k ++ onRecord (formerWrites (p .order) x (p .step)) [] (elementAt sheet k)) []
       by-rest before true e q = absurd (false≢true (sym q))
       by-rest before false e q = rw (before e, former-record k (eqb-false (kindAt sheet k) inductor q) (elementAt sheet k) refl) (joins (p .transient) _ _)
+
+  -- at DC they write nothing
+  pub none-at-dc : p .transient ≡ false → inductorAmong sheet (recordsOf sheet) ≡ false → (m : List Float) → storageOf p x y sheet m ≡ m
+  unfolding storageOf stamped
+  none-at-dc dc h m = rw (former-records (recordsOf sheet) h, dc)
 
   -- without inductors the stamps after the independent sources are what they were: dependent sources, and in the transient capacitors, word for word the former definition; the memory has no share in them
   pub as-before : inductorAmong sheet (recordsOf sheet) ≡ false → (m : List Float)

@@ -1,7 +1,7 @@
 -- Laws of counting loops, and of lists that are overwritten from the front, copied, or given a row. Clients cite all of them. Assumes nothing.
 use mathlib.Core.Path.{_≡_, refl, sym, ap, _∙_, subst}
 use mathlib.Core.Logic.{_⊎_, inl, inr, ⊎-elim}
-use mathlib.Core.Bool.{Bool, true, false}
+use mathlib.Core.Bool.{Bool, true, false, cond}
 use mathlib.Core.List.{List, [], _∷_, _++_, append-nil}
 use Prim.Native.Nat.{ℕ, zero, suc, _+_, _-_, _<_, _≤_, min}
 use native.Mathlib.Nat.{le-antisymm, not-suc-le-zero, le-of-suc-le-suc, add-zero, add-suc}
@@ -13,6 +13,13 @@ use lib.ListN.{length, getD, set, take, drop, replicate, length-append, length-t
 use lib.Seq.{take-all, drop-length, drop-cons, append-snoc, length-take-le, getD-append-add, getD-drop, set-at}
 use lib.Ieee.{Float}
 use Rattle.loops.specs.Loop.{turns, down, front, copied, rowAt, rowPut}
+
+-- ---- a choice
+
+-- of one thing is that thing
+pub either-same : {A : Type 0} {x : A} (b : Bool) → cond b x x ≡ x
+either-same true = refl
+either-same false = refl
 
 -- ---- two numbers
 

@@ -11,6 +11,7 @@ use lib.Dec.{eqb, ltb}
 use lib.ListN.{length}
 use lib.Ieee.{Float}
 use Rattle.numbers.specs.Verdicts.{settled, passesUsed, diverged, noRoom}
+use Rattle.loops.specs.laws.Loop.{either-same}
 use Rattle.steps.specs.declared.Counters.{Counters}
 use Rattle.steps.specs.declared.Job.{Job}
 use Rattle.steps.specs.declared.Report.{Report}
@@ -68,10 +69,6 @@ row-reads c v rows = go (eqb (c .phase) transientPhase) refl (ltb (c .rows) (len
     go true e true x = refl
     go true e false x = rw (eqb-true (c .phase) transientPhase e)
     go false e r x = refl
-
-either-same : (b : Bool) (y : List Float) → cond b y y ≡ y
-either-same true y = refl
-either-same false y = refl
 
 module _ (f : Attempt) (j : Job) (s : State) where
   -- what this pass's attempt gives

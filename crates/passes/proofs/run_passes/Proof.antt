@@ -75,18 +75,21 @@ returns c = sym (run-stopped _ _ _ _ (sym (c .before .going .ensures) ∙ not-tr
 
 attempt-requires : tie.Need-attempt-requires Inv-loop μ-loop
 attempt-requires c κs =
-    let i = c .before .before .before .before .before .before .before .before .before .before .loop .inv in
-    let z = c .before .before .before .before .before .before .before .before .before .before .before .before .before .before .before .before .before .before .before .before .before .before .before .pre in
-    (resized _ _ _ _ _ _ _ _ _ (z .0) (i .lv) (i .la) (i .le) (i .ls), usable _ _ _ _ _ _ _ _ _ _ _ _ _ _ _ _ _ (i .lv) (i .lh) (z .1) (i .ready) (c .before .before .before .before .before .before .alike .ensures) (c .before .before .before .before .before .before .before .before .going .ensures) (c .before .before .before .before .before .before .before .if1 .left))
+    let c6 = c .before .before .before .before .before .before in
+    let i = c6 .before .before .before .before .loop .inv in
+    let z = c6 .before .before .before .before .before .before .before .before .before .before .before .before .before .before .before .before .before .pre in
+    let u = usable _ _ _ _ _ _ _ _ _ _ _ _ _ _ _ _ _ (i .lv) (i .lh) (z .1) (i .ready) (c6 .alike .ensures) (c6 .before .before .going .ensures) (c6 .before .if1 .left) in
+    (resized _ _ _ _ _ _ _ _ _ (z .0) (i .lv) (i .la) (i .le) (i .ls), u)
 
 take-requires : tie.Need-take-requires Inv-loop μ-loop
 take-requires c κs = c .before .before .before .before .before .before .before .before .before .before .before .before .before .before .before .before .before .before .before .before .before .before .before .before .has-inductors .ensures
 
 follow-requires : tie.Need-follow-requires Inv-loop μ-loop
 follow-requires c κs =
-    let i = c .before .before .before .before .before .before .before .before .before .before .before .before .before .before .before .before .before .before .before .before .before .before .before .before .before .before .before .before .before .loop .inv in
-    let z = c .before .before .before .before .before .before .before .before .before .before .before .before .before .before .before .before .before .before .before .before .before .before .before .before .before .before .before .before .before .before .before .before .before .before .before .before .before .before .before .before .before .before .pre in
-    c .before .before .before .before .before .before .before .before .before .before .before .before .before .before .before .before .before .before .attempt .kept .1 .1 .1 .1 .1 .1 .1 .1 .1 .1 .1 .0 ∙ (i .lv ∙ (sym (z .0 .vectors) ∙ sym (i .la)))
+    let c18 = c .before .before .before .before .before .before .before .before .before .before .before .before .before .before .before .before .before .before in
+    let i = c18 .before .before .before .before .before .before .before .before .before .before .before .loop .inv in
+    let z = c18 .before .before .before .before .before .before .before .before .before .before .before .before .before .before .before .before .before .before .before .before .before .before .before .before .pre in
+    c18 .attempt .kept .1 .1 .1 .1 .1 .1 .1 .1 .1 .1 .1 .0 ∙ (i .lv ∙ (sym (z .0 .vectors) ∙ sym (i .la)))
 
 sub-left : tie.Need-sub-left Inv-loop μ-loop
 sub-left c = omega (arith, c .before .before .before .before .before .before .before .before .before .before .before .before .before .before .before .before .before .before .before .before .before .before .before .before .before .before .before .before .before .before .before .before .before .loop-test .taken)
@@ -96,14 +99,18 @@ loop-less c = omega (arith, c .before .before .before .before .before .before .b
 
 loop-again : tie.Need-loop-again Inv-loop μ-loop
 loop-again c =
-    let l = c .before .before .before .before .before .before .before .before .before .before .before .before .before .before .before .before .before .before .before .before .before .before .before .before .before .before .before .before .before .before .before .before .before .before .loop in
+    let c10 = c .before .before .before .before .before .before .before .before .before .before in
+    let c23 = c10 .before .before .before .before .before .before .before .before .before .before .before .before .before in
+    let c31 = c23 .before .before .before .before .before .before .before .before in
+    let l = c31 .before .before .before .loop in
     let i = l .inv in
-    let t = c .before .before .before .before .before .before .before .before .before .before .before .before .before .before .before .before .before .before .before .before .before .before .before .attempt in
-    let y = c .before .before .before .before .before .before .before .before .before .before .take in
+    let t = c23 .attempt in
+    let y = c10 .take in
     let x = c .before .before .before .before .follow in
-    let live = sym (c .before .before .before .before .before .before .before .before .before .before .before .before .before .before .before .before .before .before .before .before .before .before .before .before .before .before .before .before .before .before .before .before .going .ensures) ∙ not-false _ (c .before .before .before .before .before .before .before .before .before .before .before .before .before .before .before .before .before .before .before .before .before .before .before .before .before .before .before .before .before .before .before .if1 .left) in
+    let live = sym (c31 .before .going .ensures) ∙ not-false _ (c31 .if1 .left) in
     let lv = t .kept .1 .1 .1 .1 .1 .1 .1 .1 .1 .1 .1 .0 in
     let took = takes-over _ _ _ _ _ _ _ _ _ _ _ _ (sym lv) (t .ensures .0) (y .ensures) in
+    let passed = pass-joins _ _ _ _ _ _ _ _ _ _ _ _ _ _ _ took _ live (x .ensures) in
     record {
       la = x .kept .1 .1 .1 .0 ∙ i .la;
       lh = t .kept .1 .1 .1 .1 .1 .1 .1 .1 .0 ∙ i .lh;
@@ -113,7 +120,7 @@ loop-again c =
       lm = y .kept .1 .1 .1 .1 .1 .1 .0 ∙ (t .kept .1 .1 .1 .1 .1 .1 .1 .1 .1 .1 .1 .1 .0 ∙ i .lm);
       lr = x .kept .1 .1 .1 .1 .1 .0 ∙ i .lr;
       ready = λ k g b. resize _ _ _ _ _ _ _ _ _ _ _ _ (i .lv) (next-pass _ _ _ _ _ _ _ _ _ _ _ _ _ _ _ (t .ensures .1) (y .ensures) _ (x .ensures) g b);
-      same = taken _ _ _ _ _ _ _ _ (l .left) (i .lv) (pass-joins _ _ _ _ _ _ _ _ _ _ _ _ _ _ _ took _ live (x .ensures)) (c .before .before .before .before .before .before .before .before .before .before .before .before .before .before .before .before .before .before .before .before .before .before .before .before .before .before .before .before .before .before .before .before .before .loop-test .taken) (i .same);
+      same = taken _ _ _ _ _ _ _ _ (l .left) (i .lv) passed (c31 .before .before .loop-test .taken) (i .same);
     }
 
 returns-2 : tie.Need-returns-2 Inv-loop μ-loop

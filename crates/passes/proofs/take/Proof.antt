@@ -1,8 +1,8 @@
 -- `passes::take` meets its contract: without inductors nothing would be taken; else by whether the vector is taken. Assumes nothing.
-use mathlib.Core.Path.{_≡_, refl, sym, ap, _∙_}
-use mathlib.Core.Bool.{Bool, true, false, cond}
+use mathlib.Core.Path.{sym, _∙_}
 use borrow.Author.Needs.{needs}
 use borrow.Author.Tests.{not-true}
+use Rattle.loops.specs.laws.Loop.{either-same}
 use Rattle.groups.specs.laws.Storage.{nothing-taken}
 use lib.ListN.{length}
 use Rattle.machine.specs.Machine.{takes}
@@ -11,18 +11,13 @@ use Rattle.passes.specs.Again.{memoryAfter}
 use Rattle.passes.proofs.take.Statement.{statement}
 use Rattle.passes.proofs.take.Tie as tie
 
--- whichever of two equal things is chosen
-either : {A : Type 0} (b : Bool) (x y : A) → x ≡ y → y ≡ cond b x y
-either true x y e = sym e
-either false x y e = refl
-
 returns : tie.Need-returns
 unfolding memoryAfter
 returns c =
     let z = c .before .before .before .before .pre in
     let a = c .before .before .before .before .args in
-    either (takes (a .j) (a .c) (a .report)) _ _
-    (nothing-taken (passOf (a .j) (length (a .vector .now)) (a .c)) (a .sheet .now) (a .vector .now) (a .memory .now) (sym z ∙ not-true _ (c .if1 .taken)))
+    let same = nothing-taken (passOf (a .j) (length (a .vector .now)) (a .c)) (a .sheet .now) (a .vector .now) (a .memory .now) (sym z ∙ not-true _ (c .if1 .taken)) in
+    sym (rw same (either-same (takes (a .j) (a .c) (a .report))))
 
 returns-2 : tie.Need-returns-2
 unfolding memoryAfter

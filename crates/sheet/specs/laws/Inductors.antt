@@ -1,4 +1,4 @@
--- What the check promises of inductors: in a clean sheet each has its source number to itself; 9 is given at the later of two records that share one; and a sheet without an inductor is checked as if there were none.
+-- What the check promises of inductors: in a clean sheet each has its source number to itself; 9 is given at the later of two records that share one; and a sheet without an inductor is checked record by record, none held against another.
 -- Clients cite inductor-alone, later-refused, plainOf and without-inductors. Assumes nothing.
 use Prim.Native.Nat.{ℕ, zero, suc, _+_, _-_, _<_, _≤_}
 use mathlib.Core.Path.{_≡_, refl, sym, _∙_, ap}
@@ -74,7 +74,7 @@ inductor-alone s l clean i j a b d p q x n g e h = by (hasSource (recordAt s j))
 
 -- ---- 9 at the later of two
 
--- 9 is given at the later of two records that share a source number, one of them an inductor, where no earlier record is at fault and its nodes are in range.
+-- 9 is given at the later of two records that share a source number, one of them an inductor, where no earlier record is at fault, it decodes (so that it meets neither 6 nor 7) and its nodes are in range.
 pub later-refused :
     (s : List ℕ) (l : Limits) (i j : ℕ) → j < i → i < recordsOf s → ((k : ℕ) → k < i → Right s l k)
     → (e : Element) → decodeOf (recordAt s i) ≡ Good e → nodesFit (l .nodes) e ≡ true → shares (recordAt s j) (recordAt s i) ≡ true

@@ -1,4 +1,4 @@
--- What is told by records that share no source number, and where none can. Clients cite each-apart, none-shares, without-inductor, sourceless and apart. Assumes nothing.
+-- What is told by records that share no source number, and where none can. Clients cite each-apart, none-shares, without-inductor, sourceless, below and apart. Assumes nothing.
 use Prim.Native.Nat.{ℕ, zero, suc, _<_}
 use mathlib.Core.Path.{_≡_, refl, subst}
 use mathlib.Core.Bool.{Bool, true, false, not, _||_, and-false, and-eq-true-iff as both}

@@ -32,6 +32,9 @@ equal-nodes :
 unfolding stamped written voltageWrites
 equal-nodes = refl
 
+abbrev fortyNine : Float
+fortyNine = ofBits binary64 0x4048_8000_0000_0000
+
 -- an inductor from 1 to 2 with row 3 at DC: a short, so that both nodes have one voltage and its current is the unknown of its row
 inductor-at-dc :
     stamped 4 (shortWrites 4 3 1 2) (replicate 20 z)
@@ -43,12 +46,12 @@ inductor-at-dc :
 unfolding stamped written voltageWrites
 inductor-at-dc = refl
 
--- the same in a step, with the conductance 2 and a current of 4: row and column 3 hold only a 1.0 on the diagonal
+-- the same in a step, with the conductance 49, which inverted twice would be another, and a current of 4: row and column 3 hold only a 1.0 on the diagonal
 inductor-in-step :
-    stamped 4 (inductorWrites 4 3 1 2 two four) (replicate 20 z)
+    stamped 4 (inductorWrites 4 3 1 2 fortyNine four) (replicate 20 z)
     ≡ z ∷ z ∷ z ∷ z ∷ z
-    ∷ z ∷ two ∷ Ieee.neg two ∷ z ∷ Ieee.neg four
-    ∷ z ∷ Ieee.neg two ∷ two ∷ z ∷ four
+    ∷ z ∷ fortyNine ∷ Ieee.neg fortyNine ∷ z ∷ Ieee.neg four
+    ∷ z ∷ Ieee.neg fortyNine ∷ fortyNine ∷ z ∷ four
     ∷ z ∷ z ∷ z ∷ one ∷ z
     ∷ []
 unfolding stamped written inductorWrites conductanceWrites currentWrites Ieee.ofBits Ieee.ofFields Ieee.odd Ieee.neg Ieee.add Ieee.sum Ieee.round Ieee.units Ieee.size Ieee.span Ieee.climb

@@ -13,7 +13,10 @@ returns-2 c = rw (c .before .before .d .given .1, quiet-currents _ _ _ _ _ (othe
 
 returns-3 : tie.Need-returns-3
 unfolding withCurrent
-returns-3 c = rw (c .before .before .before .before .before .before .before .before .before .before .before .d .given .1, c .before .before .before .before .before .before .before .before .e .given .1) (rw (c .before .before .before .before .current-in .ensures, c .before .before .before .before .before .number-at .ensures) at (c .before .before .put .ensures))
+returns-3 c =
+    let c4 = c .before .before .before .before in
+    let c8 = c4 .before .before .before .before in
+    rw (c8 .before .before .before .d .given .1, c8 .e .given .1) (rw (c4 .current-in .ensures, c4 .before .number-at .ensures) at (c .before .before .put .ensures))
 
 pub take-one-spec : {M : Type 1} → statement M
 take-one-spec = tie.close (tie.spec (λ c. search needs) (λ c. search needs) (λ c. search needs) (λ c. search needs) returns-2 (λ c κs. search needs) (λ c κs. search needs) (λ c κs. search needs) (λ c. search needs) returns-3)

@@ -1,3 +1,4 @@
+-- `sheet::sharing::alone_beside` meets its contract: without an inductor none is looked at. Assumes nothing.
 use borrow.Author.Needs.{needs}
 use Rattle.sheet.proofs.sharing.alone_beside.Statement.{statement}
 use Rattle.sheet.proofs.sharing.alone_beside.Tie as tie

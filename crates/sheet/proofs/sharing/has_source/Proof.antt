@@ -1,3 +1,4 @@
+-- `sheet::sharing::has_source` meets its contract: it is what its kind uses. Assumes nothing.
 use borrow.Author.Needs.{needs}
 use Rattle.sheet.proofs.sharing.has_source.Statement.{statement}
 use Rattle.sheet.proofs.sharing.has_source.Tie as tie

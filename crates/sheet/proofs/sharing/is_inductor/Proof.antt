@@ -1,3 +1,4 @@
+-- `sheet::sharing::is_inductor` meets its contract: it is the test of its first byte. Assumes nothing.
 use borrow.Author.Needs.{needs}
 use Rattle.sheet.proofs.sharing.is_inductor.Statement.{statement}
 use Rattle.sheet.proofs.sharing.is_inductor.Tie as tie

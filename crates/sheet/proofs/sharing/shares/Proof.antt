@@ -1,3 +1,4 @@
+-- `sheet::sharing::shares` meets its contract: each test is one of the definition's. Assumes nothing.
 use Rattle.sheet.specs.Sharing.{shares}
 use borrow.Author.Needs.{needs}
 use Rattle.sheet.proofs.sharing.shares.Statement.{statement}
