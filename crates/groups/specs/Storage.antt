@@ -11,7 +11,6 @@ use Rattle.loops.specs.Loop.{turns}
 use Rattle.sheet.specs.declared.SourceId.{SourceId}
 use Rattle.sheet.specs.declared.Element.{Element}
 use Rattle.sheet.specs.declared.Element.the-variants.{R, I, «V», D, Isin, Vsin, Vpwl, C, Vcvs, Vccs, L}
-use Rattle.sheet.specs.declared.Decoded.{Decoded}
 use Rattle.sheet.specs.Record.{kindAt}
 use Rattle.sheet.specs.Row.{rowOf}
 use Rattle.sheet.specs.Check.{recordsOf}
@@ -20,7 +19,7 @@ use Rattle.stamps.specs.Kinds.{capacitorWrites, inductorWrites, shortWrites}
 use Rattle.models.specs.Capacitor.{companionOf}
 use Rattle.models.specs.Inductor.{conductanceOf, currentAfter}
 use Rattle.groups.specs.declared.Pass.{Pass}
-use Rattle.groups.specs.Records.{elementAt, onRecord, unless, writesOf, across}
+use Rattle.groups.specs.Records.{elementAt, onRecord, writesOf, across}
 
 -- ---- stamps
 
@@ -83,9 +82,6 @@ takenOf p sheet v y = turns (recordsOf sheet) (withCurrentAt p sheet v) y
 -- a kind that a pass does not stamp as a storage element
 abbrev pub unstored : Bool → ℕ → Bool
 unstored transient kind = not (eqb kind inductor) && not (eqb kind capacitor && transient)
-
-unfoldable pub storedAt : Bool → List ℕ → ℕ → Decoded
-storedAt transient sheet i = unless (unstored transient) sheet i
 
 -- one of the first k records has an inductor's kind
 unfoldable pub inductorAmong : List ℕ → ℕ → Bool

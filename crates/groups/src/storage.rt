@@ -15,8 +15,8 @@ ghost use mathlib.Core.List.{[]};
 ghost use Rattle.sheet.specs.Check.{recordsOf};
 ghost use Rattle.sheet.specs.Row.{rowOf};
 ghost use Rattle.stamps.specs.Write.{stamped};
-ghost use Rattle.groups.specs.Records.{onRecord};
-ghost use Rattle.groups.specs.Storage.{capacitorIn, inductorIn, storageWrites, storedAt, storageOf, currentIn, withCurrent, takenOf, inductorAmong};
+ghost use Rattle.groups.specs.Records.{elementAt, onRecord};
+ghost use Rattle.groups.specs.Storage.{capacitorIn, inductorIn, storageWrites, storageOf, currentIn, withCurrent, takenOf, inductorAmong};
 
 // Stamps C and L, in the order of the records; x is the last accepted vector. At DC a sheet without inductors writes nothing, and is not walked.
 pub fn stamp_storage(p: Pass, sheet: &[u8], x: &[f64], memory: &[f64], m: &mut [f64])
@@ -36,22 +36,38 @@ fn stamp_stored(p: Pass, sheet: &[u8], x: &[f64], memory: &[f64], m: &mut [f64])
 {
     let count = sheet::records(sheet);
     for i in 0..count {
-        storage_one(stored_at(p.transient, sheet, i), p, i, x, memory, m);
+        storage_at(p, sheet, i, x, memory, m);
     }
 }
 
-// Record i, decoded only where the pass stamps it as a storage element: an inductor, and in the transient a capacitor.
-fn stored_at(transient: bool, sheet: &[u8], i: usize) -> Decoded
-    ensures { λ r. ⌜ r ≡ storedAt transient (now (sheet .entry)) i ⌝ }
+// Record i, decoded only where the pass stamps it as a storage element: an inductor, and in the transient a capacitor. Each is decoded as its own kind alone, and any other record is passed by at once.
+fn storage_at(p: Pass, sheet: &[u8], i: usize, x: &[f64], memory: &[f64], m: &mut [f64])
+    ensures { λ _. ⌜
+        now (m .exit) ≡ stamped (p .order) (onRecord (storageWrites p (now (x .entry)) (now (memory .entry)) i) [] (elementAt (now (sheet .entry)) i)) (now (m .entry))
+        ⌝ }
 {
     let k = sheet::kind_at(sheet, i);
     if k == kind::INDUCTOR {
-        return sheet::element_as(sheet, i, kind::INDUCTOR);
+        storage_one(
+            sheet::element_as(sheet, i, kind::INDUCTOR),
+            p,
+            i,
+            x,
+            memory,
+            m,
+        );
+        return;
     }
-    if (k == kind::CAPACITOR) & transient {
-        return sheet::element_as(sheet, i, kind::CAPACITOR);
+    if (k == kind::CAPACITOR) & p.transient {
+        storage_one(
+            sheet::element_as(sheet, i, kind::CAPACITOR),
+            p,
+            i,
+            x,
+            memory,
+            m,
+        );
     }
-    Decoded::Refused(0)
 }
 
 // What record i writes as a storage element.

@@ -182,11 +182,14 @@ pub fn diode_at(sheet: &[u8], i: usize) -> Element
     }
 }
 
-// The kind byte of record i, which tells a pass whether it has to decode the record; past the sheet's end it is 0.
+// The kind byte of record i, which tells a pass whether it has to decode the record; past the sheet's end it is 0. Every pass asks each record, so that the record is not cut out first.
 pub fn kind_at(sheet: &[u8], i: usize) -> u8
     ensures { λ r. ⌜ r ≡ kindAt (now (sheet .entry)) i ⌝ }
 {
-    record::byte_at(record_at(sheet, i), 0)
+    if sheet.len() / RECORD < i {
+        return 0;
+    }
+    record::byte_at(sheet, RECORD * i)
 }
 
 // How many whole records the sheet has.
@@ -205,12 +208,12 @@ pub fn check_sheet(sheet: &[u8], l: Limits) -> Checked
     let mut i = 0;
     while i < count {
         let bytes = record_at(sheet, i);
+        inductor = inductor | sharing::is_inductor(bytes);
+        let own = sharing::alone_beside(inductor, sheet, i); // asked before the element is there, which then need not be kept across the call
         let d = decode(bytes);
         let Decoded::Good(e) = d else {
             return Checked::Faulty(refusal(d), i);
         };
-        inductor = inductor | sharing::is_inductor(bytes);
-        let own = sharing::alone_beside(inductor, sheet, i);
         let fault = range::element_fault(l, own, e);
         if fault != 0 {
             return Checked::Faulty(fault, i);

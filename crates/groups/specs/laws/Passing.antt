@@ -31,7 +31,7 @@ abbrev pub Quiet : {X : Type 0} → ℕ → ℕ → (Element → X) → X → Ty
 Quiet low high f x = Silent (outside low high) f x
 
 module _ {X : Type 0} (skip : ℕ → Bool) (sheet : List ℕ) (i : ℕ) (f : Element → X) (x : X) (silent : Silent skip f x) where
-  passed : skip (kindAt sheet i) ≡ true → (d : Decoded) → elementAt sheet i ≡ d → x ≡ onRecord f x d
+  pub passed : skip (kindAt sheet i) ≡ true → (d : Decoded) → elementAt sheet i ≡ d → x ≡ onRecord f x d
   passed h (Good e) g = sym (silent e (ap skip (sym (kind-at sheet i e g)) ∙ h))
   passed h (Refused k) g = refl
 

@@ -30,15 +30,14 @@ use Rattle.stamps.specs.Kinds.{capacitorWrites}
 use Rattle.models.specs.Capacitor.{companionOf}
 use Rattle.groups.specs.Records.{elementAt, onRecord, writesOf, across}
 use Rattle.groups.specs.Plain.{dependentOf}
-use Rattle.groups.specs.Storage.{capacitorIn, storageWrites, storageOf, currentIn, withCurrent, withCurrentAt, takenOf, unstored, storedAt, inductorAmong}
+use Rattle.groups.specs.Storage.{capacitorIn, storageWrites, storageOf, currentIn, withCurrent, withCurrentAt, takenOf, unstored, inductorAmong}
 use Rattle.groups.specs.Stamping.{completed, linearOf}
-use Rattle.groups.specs.laws.Passing.{apart, passed-by}
+use Rattle.groups.specs.laws.Passing.{apart, passed}
 use Rattle.groups.specs.laws.Quiet.{silent-storage, quiet-currents}
 
--- a pass may go by the kind byte
-pub stored-same : (p : Pass) (x y : List Float) (sheet : List ℕ) (i : ℕ) → onRecord (storageWrites p x y i) [] (storedAt (p .transient) sheet i) ≡ onRecord (storageWrites p x y i) [] (elementAt sheet i)
-unfolding storedAt
-stored-same p x y sheet i = passed-by (unstored (p .transient)) sheet i (storageWrites p x y i) [] (silent-storage p x y i)
+-- a record of another kind writes nothing
+pub unstored-nothing : (p : Pass) (x y : List Float) (sheet : List ℕ) (i : ℕ) → unstored (p .transient) (kindAt sheet i) ≡ true → onRecord (storageWrites p x y i) [] (elementAt sheet i) ≡ []
+unstored-nothing p x y sheet i h = sym (passed (unstored (p .transient)) sheet i (storageWrites p x y i) [] (silent-storage p x y i) h (elementAt sheet i) refl)
 
 -- ---- of the memory only the floats of inductors count
 

@@ -73,7 +73,7 @@ loop-holds c = (omega arith, λ h j m. absurd (omega arith), rw (sub-zero, c .re
 
 returns : tie.Need-returns Inv-loop μ-loop
 returns c =
-    let r = c .before .before .before .before in
+    let r = c .before .before .before .before .before .before in
     let s = r .before .before in
     let a = s .before .before .before .args in
     let told = c .before .enum-told .given .1 in
@@ -86,10 +86,10 @@ returns-2 c =
     let s = r .before .before in
     let a = s .before .before .before .args in
     let q = r .record-at .ensures in
-    let own = held (a .sheet .now) (s .loop .i) q (c .before .before .before .is-inductor .ensures) (s .loop .inv .1) (c .before .before .alone-beside .ensures) in
-    let good = c .before .before .before .before .before .d .given .1 in
+    let own = held (a .sheet .now) (s .loop .i) q (c .before .before .before .before .before .before .before .is-inductor .ensures) (s .loop .inv .1) (c .before .before .before .before .before .before .alone-beside .ensures) in
+    let good = c .before .before .before .d .given .1 in
     let fault = c .before .element-fault .ensures in
-    let ends = faulty (a .sheet .now) (s .loop .i) q (a .l) (s .before .records .result) (r .before .loop-test .taken) (c .before .before .before .before .before .before .before .decode .ensures) good own fault (c .if1 .taken) in
+    let ends = faulty (a .sheet .now) (s .loop .i) q (a .l) (s .before .records .result) (r .before .loop-test .taken) (c .before .before .before .before .before .decode .ensures) good own fault (c .if1 .taken) in
     sym ends ∙ s .loop .inv .2
 
 loop-again : tie.Need-loop-again Inv-loop μ-loop
@@ -98,11 +98,11 @@ loop-again c =
     let s = r .before .before in
     let a = s .before .before .before .args in
     let q = r .record-at .ensures in
-    let kind = c .before .before .before .is-inductor .ensures in
-    let own = held (a .sheet .now) (s .loop .i) q kind (s .loop .inv .1) (c .before .before .alone-beside .ensures) in
-    let good = c .before .before .before .before .before .d .given .1 in
+    let kind = c .before .before .before .before .before .before .before .is-inductor .ensures in
+    let own = held (a .sheet .now) (s .loop .i) q kind (s .loop .inv .1) (c .before .before .before .before .before .before .alone-beside .ensures) in
+    let good = c .before .before .before .d .given .1 in
     let fault = c .before .element-fault .ensures in
-    let goes = passes (a .sheet .now) (s .loop .i) q (a .l) (s .before .records .result) (r .before .loop-test .taken) (c .before .before .before .before .before .before .before .decode .ensures) good own fault (c .if1 .left) in
+    let goes = passes (a .sheet .now) (s .loop .i) q (a .l) (s .before .records .result) (r .before .loop-test .taken) (c .before .before .before .before .before .decode .ensures) good own fault (c .if1 .left) in
     (omega arith, raised (a .sheet .now) (s .loop .i) q kind (s .loop .inv .1), goes ∙ s .loop .inv .2)
 
 returns-3 : tie.Need-returns-3 Inv-loop μ-loop
@@ -122,12 +122,12 @@ check-sheet-spec =
     loop-holds
     (λ c κs. search needs)
     (λ c κs. search needs)
+    (λ c κs. search needs)
+    (λ c κs. search needs)
     (λ c. search needs)
     (λ c. search needs)
     (λ c κs. search needs)
     returns
-    (λ c κs. search needs)
-    (λ c κs. search needs)
     (λ c κs. search needs)
     returns-2
     (λ c. search needs)

@@ -8,20 +8,12 @@ use native.Mathlib.Nat.{le-antisymm}
 use native.Mathlib.Numerals.{add-one}
 use native.Mathlib.Omega.{arith}
 use lib.Dec.{eqb}
-use lib.ListN.{length, getD, drop}
-use lib.Seq.{getD-take, getD-drop}
 use Rattle.numbers.specs.Kinds.{inductor}
-use Rattle.sheet.specs.Record.{recordAt, kindAt}
+use Rattle.sheet.specs.Record.{kindAt}
+use Rattle.sheet.specs.laws.Record.{first-byte}
 use Rattle.groups.specs.Storage.{inductorAmong}
 use Rattle.groups.proofs.storage.has_inductors.Statement.{statement}
 use Rattle.groups.proofs.storage.has_inductors.Tie as tie
-
--- the first byte of record i stands at 40 times i
-first-byte : (sheet : List ℕ) (i : ℕ) → kindAt sheet i ≡ getD sheet (40 * i) 0
-unfolding recordAt
-first-byte sheet i =
-    getD-take 40 (drop (40 * i) sheet) 0 0 (omega arith)
-    ∙ (getD-drop (40 * i) sheet 0 0 ∙ ap (λ (k : ℕ). getD sheet k 0) (let e : 40 * i + 0 ≡ 40 * i = omega arith in e))
 
 -- one record more
 asked : (sheet : List ℕ) (i k : ℕ) (found : Bool) → k ≡ kindAt sheet i → found ≡ inductorAmong sheet i → (found || eqb k inductor) ≡ inductorAmong sheet (i + 1)

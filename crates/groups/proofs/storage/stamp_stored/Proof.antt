@@ -1,12 +1,9 @@
 -- `groups::storage::stamp_stored` meets its contract: the records passed have written their lists. Assumes nothing.
 use borrow.Author.Needs.{needs}
 use Prim.Native.Nat.{_-_}
-use mathlib.Core.Path.{ap, _∙_}
-use mathlib.Core.List.{[]}
-use Rattle.sheet.specs.declared.Decoded.{Decoded}
-use Rattle.groups.specs.Records.{onRecord}
+use mathlib.Core.Path.{refl}
+use Rattle.groups.specs.Records.{elementAt}
 use Rattle.groups.specs.Storage.{storageWrites, storageOf}
-use Rattle.groups.specs.laws.Storage.{stored-same}
 use Rattle.groups.proofs.Walk.{Walking, at-first, one-more, at-last}
 use Rattle.groups.proofs.storage.stamp_stored.Statement.{statement}
 use Rattle.groups.proofs.storage.stamp_stored.Tie as tie
@@ -22,12 +19,10 @@ loop-holds c = at-first _ _ _ _ _
 
 loop-again : tie.Need-loop-again Inv-loop μ-loop
 loop-again c =
-    let a = c .before .before .before .before .before .before .before .before .before .before .before .before .args in
-    let l = c .before .before .before .before .before .before .loop in
+    let a = c .before .before .before .before .before .before .before .before .before .before .before .args in
+    let l = c .before .before .before .before .before .loop in
     let f = storageWrites (a .p) (a .x .now) (a .memory .now) in
-    let s = stored-same (a .p) (a .x .now) (a .memory .now) (a .sheet .now) (l .i) in
-    one-more f (a .p .order) (a .sheet .now) (a .m .now) _ (l .i) _ _ (c .before .before .before .before .stored-at .result)
-    (c .before .before .before .before .before .loop-test .taken) (l .inv) (ap (λ (d : Decoded). onRecord (f (l .i)) [] d) (c .before .before .before .before .stored-at .ensures) ∙ s) (c .before .before .storage-one .ensures)
+    one-more f (a .p .order) (a .sheet .now) (a .m .now) _ (l .i) _ _ (elementAt (a .sheet .now) (l .i)) (c .before .before .before .before .loop-test .taken) (l .inv) refl (c .before .before .storage-at .ensures)
 
 returns : tie.Need-returns Inv-loop μ-loop
 unfolding storageOf
@@ -36,4 +31,4 @@ returns c =
     at-last (storageWrites (a .p) (a .x .now) (a .memory .now)) (a .p .order) (a .sheet .now) (a .m .now) _ _ _ (c .before .before .records .ensures) (c .loop-test .left) (c .before .loop .inv)
 
 pub stamp-stored-spec : {M : Type 1} → statement M
-stamp-stored-spec = tie.close (tie.spec Inv-loop μ-loop (λ c κs. search needs) loop-holds (λ c κs. search needs) (λ c κs. search needs) (λ c. search needs) (λ c. search needs) loop-again (λ c. search needs) returns)
+stamp-stored-spec = tie.close (tie.spec Inv-loop μ-loop (λ c κs. search needs) loop-holds (λ c κs. search needs) (λ c. search needs) (λ c. search needs) loop-again (λ c. search needs) returns)
