@@ -1,7 +1,7 @@
--- The elements that store energy, C and L: what they stamp, and the currents that inductors take where a vector is taken. Clients cite storageOf, takenOf and inductorAmong.
+-- The elements that store energy, C and L: what they stamp, and the currents that inductors take where a vector is taken. Clients cite storageOf and takenOf.
 -- Of a pass, x is the last accepted vector, y the memory, whose float i is the last accepted current of the inductor of record i, and v a vector that is taken.
-use Prim.Native.Nat.{ℕ, zero, suc}
-use mathlib.Core.Bool.{Bool, false, cond, not, _&&_, _||_}
+use Prim.Native.Nat.{ℕ}
+use mathlib.Core.Bool.{Bool, cond, not, _&&_}
 use mathlib.Core.List.{List, []}
 use lib.Dec.{eqb}
 use lib.ListN.{getD, set}
@@ -11,7 +11,6 @@ use Rattle.loops.specs.Loop.{turns}
 use Rattle.sheet.specs.declared.SourceId.{SourceId}
 use Rattle.sheet.specs.declared.Element.{Element}
 use Rattle.sheet.specs.declared.Element.the-variants.{R, I, «V», D, Isin, Vsin, Vpwl, C, Vcvs, Vccs, L}
-use Rattle.sheet.specs.Record.{kindAt}
 use Rattle.sheet.specs.Row.{rowOf}
 use Rattle.sheet.specs.Check.{recordsOf}
 use Rattle.stamps.specs.Write.{Write, stamped}
@@ -82,8 +81,3 @@ takenOf p sheet v y = turns (recordsOf sheet) (withCurrentAt p sheet v) y
 -- a kind that a pass does not stamp as a storage element
 abbrev pub unstored : Bool → ℕ → Bool
 unstored transient kind = not (eqb kind inductor) && not (eqb kind capacitor && transient)
-
--- one of the first k records has an inductor's kind
-unfoldable pub inductorAmong : List ℕ → ℕ → Bool
-inductorAmong sheet zero = false
-inductorAmong sheet (suc k) = inductorAmong sheet k || eqb (kindAt sheet k) inductor

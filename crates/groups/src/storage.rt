@@ -12,26 +12,13 @@ use sheet::NodeId;
 use sheet::SourceId;
 ghost use mathlib.Core.Path.{_≡_};
 ghost use mathlib.Core.List.{[]};
-ghost use Rattle.sheet.specs.Check.{recordsOf};
 ghost use Rattle.sheet.specs.Row.{rowOf};
 ghost use Rattle.stamps.specs.Write.{stamped};
 ghost use Rattle.groups.specs.Records.{elementAt, onRecord};
-ghost use Rattle.groups.specs.Storage.{capacitorIn, inductorIn, storageWrites, storageOf, currentIn, withCurrent, takenOf, inductorAmong};
+ghost use Rattle.groups.specs.Storage.{capacitorIn, inductorIn, storageWrites, storageOf, currentIn, withCurrent, takenOf};
 
-// Stamps C and L, in the order of the records; x is the last accepted vector. At DC a sheet without inductors writes nothing, and is not walked.
+// Stamps C and L, in the order of the records; x is the last accepted vector.
 pub fn stamp_storage(p: Pass, sheet: &[u8], x: &[f64], memory: &[f64], m: &mut [f64])
-    ensures { λ _. ⌜ now (m .exit) ≡ storageOf p (now (x .entry)) (now (memory .entry)) (now (sheet .entry)) (now (m .entry)) ⌝ }
-{
-    if !p.transient {
-        if !has_inductors(sheet) {
-            return;
-        }
-    }
-    stamp_stored(p, sheet, x, memory, m);
-}
-
-// The same, record by record.
-fn stamp_stored(p: Pass, sheet: &[u8], x: &[f64], memory: &[f64], m: &mut [f64])
     ensures { λ _. ⌜ now (m .exit) ≡ storageOf p (now (x .entry)) (now (memory .entry)) (now (sheet .entry)) (now (m .entry)) ⌝ }
 {
     let count = sheet::records(sheet);
@@ -40,13 +27,16 @@ fn stamp_stored(p: Pass, sheet: &[u8], x: &[f64], memory: &[f64], m: &mut [f64])
     }
 }
 
-// Record i, decoded only where the pass stamps it as a storage element: an inductor, and in the transient a capacitor. Each is decoded as its own kind alone, and any other record is passed by at once.
+// Record i, decoded only where the pass stamps it as a storage element: an inductor, and in the transient a capacitor. Each is decoded as its own kind alone; the kinds before them, which most records have, are passed by at one test.
 fn storage_at(p: Pass, sheet: &[u8], i: usize, x: &[f64], memory: &[f64], m: &mut [f64])
     ensures { λ _. ⌜
         now (m .exit) ≡ stamped (p .order) (onRecord (storageWrites p (now (x .entry)) (now (memory .entry)) i) [] (elementAt (now (sheet .entry)) i)) (now (m .entry))
         ⌝ }
 {
     let k = sheet::kind_at(sheet, i);
+    if k < kind::CAPACITOR {
+        return;
+    }
     if k == kind::INDUCTOR {
         storage_one(
             sheet::element_as(sheet, i, kind::INDUCTOR),
@@ -162,16 +152,4 @@ fn current_in(
         return models::inductor::current(value, p.step, across(v, a.0 as usize, b.0 as usize), old);
     }
     number_at(v, sheet::row_of(p.nodes, source))
-}
-
-// Whether a sheet has a record of an inductor's kind. A run asks once, so that a circuit without any is not walked at each accepted step. It looks at kind bytes alone and cuts no record out.
-pub fn has_inductors(sheet: &[u8]) -> bool
-    ensures { λ r. ⌜ r ≡ inductorAmong (now (sheet .entry)) (recordsOf (now (sheet .entry))) ⌝ }
-{
-    let count = sheet::records(sheet);
-    let mut found = false;
-    for i in 0..count {
-        found = found | (sheet[sheet::RECORD * i] == kind::INDUCTOR);
-    }
-    found
 }

@@ -6,8 +6,8 @@ ghost use mathlib.Core.Path.{_≡_};
 ghost use Rattle.numbers.specs.Limits.{mostRecords};
 ghost use lib.ListN.{length};
 ghost use Rattle.sheet.specs.Check.{recordsOf};
+ghost use Rattle.sheet.specs.Sharing.{inductorAmong};
 ghost use Rattle.groups.specs.Listed.{Listed};
-ghost use Rattle.groups.specs.Storage.{inductorAmong};
 ghost use Rattle.machine.specs.State.{buffersOf, stateOf, writtenOf};
 ghost use Rattle.machine.specs.Machine.{runFor};
 ghost use Rattle.passes.specs.Sized.{Sized, fits as fitsOf};
@@ -18,7 +18,6 @@ ghost use Rattle.passes.specs.Run.{runOn, Scratch};
 use attempt::attempt;
 use attempt::pass_of;
 use groups::diodes::list_diodes;
-use groups::storage::has_inductors;
 use groups::storage::take_currents;
 use machine::accept;
 use machine::accepts;
@@ -256,7 +255,7 @@ fn run_passes(
         (stateOf c (now (accepted .entry)) (buffersOf (now (base .entry)) (now (system .entry)) (now (vector .entry)) (now (memory .entry)) (now (rows .entry))))
         ⌝ }
 {
-    let inductors = has_inductors(sheet);
+    let inductors = sheet::has_inductors(sheet);
     let mut s = c;
     let mut left = j.options.budget;
     let mut known = false;

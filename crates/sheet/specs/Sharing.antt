@@ -1,12 +1,13 @@
--- Refusal 9 between two records: an inductor has its source number to itself. Clients cite shares and alone.
-use Prim.Native.Nat.{ℕ, zero, suc}
-use mathlib.Core.Bool.{Bool, true, not, _&&_, _||_}
+-- Refusal 9 between two records: an inductor has its source number to itself. Clients cite shares, alone and inductorAmong.
+use Prim.Native.Nat.{ℕ, zero, suc, _<_}
+use mathlib.Core.Path.{_≡_}
+use mathlib.Core.Bool.{Bool, true, false, not, _&&_, _||_}
 use mathlib.Core.List.{List}
 use lib.ListN.{getD}
 use lib.Dec.{eqb}
 use Rattle.numbers.specs.Kinds.{inductor}
 use Rattle.num.specs.Le.{le16}
-use Rattle.sheet.specs.Record.{recordAt, usesOf}
+use Rattle.sheet.specs.Record.{recordAt, kindAt, usesOf}
 
 -- a record's kind is the inductor's
 abbrev pub isInductor : List ℕ → Bool
@@ -28,3 +29,13 @@ noneShares sheet (suc k) r = not (shares (recordAt sheet k) r) && noneShares she
 -- record i shares none with an earlier record: 9 is given at the later of two
 abbrev pub alone : List ℕ → ℕ → Bool
 alone sheet i = noneShares sheet i (recordAt sheet i)
+
+-- one of the first k records has an inductor's kind
+unfoldable pub inductorAmong : List ℕ → ℕ → Bool
+inductorAmong sheet zero = false
+inductorAmong sheet (suc k) = inductorAmong sheet k || eqb (kindAt sheet k) inductor
+
+-- for the contracts of inner functions: p is the first of so many records that shares one, or past them all
+pub record FirstShared (sheet : List ℕ) (count p : ℕ) : Type 0 where
+  pub before : (i : ℕ) → i < p → i < count → alone sheet i ≡ true
+  pub there : p < count → alone sheet p ≡ false

@@ -9,6 +9,7 @@ ghost use mathlib.Core.Path.{_≡_};
 ghost use lib.ListN.{length};
 ghost use Rattle.sheet.specs.Record.{recordAt, kindAt, diodeOf, decodeOf, decodeAs};
 ghost use Rattle.sheet.specs.Row.{rowOf};
+ghost use Rattle.sheet.specs.Sharing.{inductorAmong};
 ghost use Rattle.sheet.specs.Check.{checkOf, recordsOf, recordRefusal, numberOf, placeOf, badSheet, badPoints};
 
 // A node's number; ground is 0.
@@ -182,14 +183,11 @@ pub fn diode_at(sheet: &[u8], i: usize) -> Element
     }
 }
 
-// The kind byte of record i, which tells a pass whether it has to decode the record; past the sheet's end it is 0. Every pass asks each record, so that the record is not cut out first.
+// The kind byte of record i, which tells a pass whether it has to decode the record; past the sheet's end it is 0.
 pub fn kind_at(sheet: &[u8], i: usize) -> u8
     ensures { λ r. ⌜ r ≡ kindAt (now (sheet .entry)) i ⌝ }
 {
-    if sheet.len() / RECORD < i {
-        return 0;
-    }
-    record::byte_at(sheet, RECORD * i)
+    record::byte_at(record_at(sheet, i), 0)
 }
 
 // How many whole records the sheet has.
@@ -199,22 +197,31 @@ pub fn records(sheet: &[u8]) -> usize
     sheet.len() / RECORD
 }
 
+// Whether a record of the sheet has an inductor's kind. It looks at kind bytes alone and cuts no record out: a sheet without any is asked so, and else goes as if there were none.
+pub fn has_inductors(sheet: &[u8]) -> bool
+    ensures { λ r. ⌜ r ≡ inductorAmong (now (sheet .entry)) (recordsOf (now (sheet .entry))) ⌝ }
+{
+    let count = records(sheet);
+    let mut found = false;
+    for i in 0..count {
+        found = found | (sheet[RECORD * i] == numbers::kind::INDUCTOR);
+    }
+    found
+}
+
 // The first faulty record, with its lowest refusal of 6 to 10, or clean.
 pub fn check_sheet(sheet: &[u8], l: Limits) -> Checked
     ensures { λ r. ⌜ r ≡ checkOf (now (sheet .entry)) l ⌝ }
 {
     let count = records(sheet);
-    let mut inductor = false; // whether one stands among the records up to i
+    let shared = sharing::first_shared(sheet);
     let mut i = 0;
     while i < count {
-        let bytes = record_at(sheet, i);
-        inductor = inductor | sharing::is_inductor(bytes);
-        let own = sharing::alone_beside(inductor, sheet, i); // asked before the element is there, which then need not be kept across the call
-        let d = decode(bytes);
+        let d = element_at(sheet, i);
         let Decoded::Good(e) = d else {
             return Checked::Faulty(refusal(d), i);
         };
-        let fault = range::element_fault(l, own, e);
+        let fault = range::element_fault(l, i != shared, e);
         if fault != 0 {
             return Checked::Faulty(fault, i);
         }

@@ -2,20 +2,36 @@
 use super::record;
 use super::record_at;
 ghost use mathlib.Core.Path.{_≡_};
-ghost use mathlib.Core.Bool.{not, _||_};
+ghost use Rattle.sheet.specs.Check.{recordsOf};
 ghost use Rattle.sheet.specs.Sharing as sharing;
+ghost use Rattle.sheet.specs.Sharing.{FirstShared};
 
-// Whether record i shares its source number with no earlier record, told whether an inductor stands among the records up to i: without one none is looked at.
-pub fn alone_beside(inductor: bool, sheet: &[u8], i: usize) -> bool
-    ensures { λ r. ⌜ r ≡ (not inductor || sharing.alone (now (sheet .entry)) i) ⌝ }
+// The first record that shares its source number with an earlier one, one of the two an inductor; as many as there are records where none does. The check ends there at the latest.
+pub fn first_shared(sheet: &[u8]) -> usize
+    ensures { λ p. ⌜ FirstShared (now (sheet .entry)) (recordsOf (now (sheet .entry))) p ⌝ }
 {
-    if !inductor {
-        return true;
+    let count = super::records(sheet);
+    if !super::has_inductors(sheet) {
+        return count;
     }
-    alone(sheet, i)
+    first_from(sheet, count)
 }
 
-// The same for any sheet; a record without a source number is held against none.
+// The same of the first `count` records, one after the other.
+fn first_from(sheet: &[u8], count: usize) -> usize
+    ensures { λ p. ⌜ FirstShared (now (sheet .entry)) count p ⌝ }
+{
+    let mut i = 0;
+    while i < count {
+        if !alone(sheet, i) {
+            return i;
+        }
+        i += 1;
+    }
+    count
+}
+
+// Whether record i shares its source number with no earlier record; a record without a source number is held against none.
 fn alone(sheet: &[u8], i: usize) -> bool
     ensures { λ r. ⌜ r ≡ sharing.alone (now (sheet .entry)) i ⌝ }
 {
@@ -43,7 +59,7 @@ fn shares(r: &[u8], q: &[u8]) -> bool
 }
 
 // Whether a record's kind is the inductor's.
-pub fn is_inductor(bytes: &[u8]) -> bool
+fn is_inductor(bytes: &[u8]) -> bool
     ensures { λ r. ⌜ r ≡ sharing.isInductor (now (bytes .entry)) ⌝ }
 {
     record::byte_at(bytes, 0) == numbers::kind::INDUCTOR

@@ -25,9 +25,10 @@ use Rattle.sheet.specs.Kind.{kindOf}
 use Rattle.sheet.specs.laws.Kind.{kind-at}
 use Rattle.sheet.specs.Row.{rowOf}
 use Rattle.sheet.specs.Check.{recordsOf}
+use Rattle.sheet.specs.Sharing.{inductorAmong}
 use Rattle.models.specs.Inductor.{currentAfter}
 use Rattle.groups.specs.Records.{elementAt, across}
-use Rattle.groups.specs.Storage.{currentIn, inductorAmong}
+use Rattle.groups.specs.Storage.{currentIn}
 use Rattle.groups.specs.laws.Stamping.{fine, memory-stays}
 use Rattle.groups.specs.laws.Storage.{no-diode, taken-here, nothing-taken}
 use Rattle.steps.specs.Phases.{dcPhase, transientPhase}

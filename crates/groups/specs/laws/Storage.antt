@@ -24,13 +24,14 @@ use Rattle.sheet.specs.Record.{kindAt}
 use Rattle.sheet.specs.Kind.{kindOf}
 use Rattle.sheet.specs.laws.Kind.{kind-at}
 use Rattle.sheet.specs.Check.{recordsOf}
+use Rattle.sheet.specs.Sharing.{inductorAmong}
 use Rattle.stamps.specs.Write.{Write, stamped}
 use Rattle.groups.specs.declared.Pass.{Pass}
 use Rattle.stamps.specs.Kinds.{capacitorWrites}
 use Rattle.models.specs.Capacitor.{companionOf}
 use Rattle.groups.specs.Records.{elementAt, onRecord, writesOf, across}
 use Rattle.groups.specs.Plain.{dependentOf}
-use Rattle.groups.specs.Storage.{capacitorIn, storageWrites, storageOf, currentIn, withCurrent, withCurrentAt, takenOf, unstored, inductorAmong}
+use Rattle.groups.specs.Storage.{capacitorIn, storageWrites, storageOf, currentIn, withCurrent, withCurrentAt, takenOf, unstored}
 use Rattle.groups.specs.Stamping.{completed, linearOf}
 use Rattle.groups.specs.laws.Passing.{apart, passed}
 use Rattle.groups.specs.laws.Quiet.{silent-storage, quiet-currents}

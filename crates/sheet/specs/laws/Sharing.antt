@@ -1,14 +1,16 @@
--- What is told by records that share no source number, and where none can. Clients cite each-apart, none-shares, without-inductor, sourceless, below and apart. Assumes nothing.
+-- What is told by records that share no source number, and where none can. Clients cite each-apart, none-shares, without-inductor, none-among, sourceless, below and apart. Assumes nothing.
 use Prim.Native.Nat.{ℕ, zero, suc, _<_}
 use mathlib.Core.Path.{_≡_, refl, subst}
 use mathlib.Core.Bool.{Bool, true, false, not, _||_, and-false, and-eq-true-iff as both}
 use mathlib.Core.List.{List}
 use native.Mathlib.Omega.{arith}
+use mathlib.Mathlib.Data.Bool.Basic.{or-eq-false-eq-eq-false-and-eq-false as nor}
 use borrow.Author.Tests.{ltb-true, ltb-false, eqb-false, not-true}
-use lib.Dec.{ltb}
+use lib.Dec.{eqb, ltb}
+use Rattle.numbers.specs.Kinds.{inductor}
 use Rattle.num.specs.Le.{le16}
-use Rattle.sheet.specs.Record.{recordAt}
-use Rattle.sheet.specs.Sharing.{isInductor, hasSource, shares, noneShares}
+use Rattle.sheet.specs.Record.{recordAt, kindAt}
+use Rattle.sheet.specs.Sharing.{isInductor, hasSource, shares, noneShares, inductorAmong}
 
 -- ---- none of the first k records shares one with r: each of them shares none
 
@@ -37,6 +39,14 @@ neither r q g h = rw (g, h)
 
 pub without-inductor : (s : List ℕ) (k : ℕ) (r : List ℕ) → ((j : ℕ) → j < k → isInductor (recordAt s j) ≡ false) → isInductor r ≡ false → noneShares s k r ≡ true
 without-inductor s k r g h = none-shares s k r (λ j m. neither (recordAt s j) r (g j m) h)
+
+-- none of so many records is an inductor
+pub none-among : (s : List ℕ) (k : ℕ) → inductorAmong s k ≡ false → (j : ℕ) → j < k → isInductor (recordAt s j) ≡ false
+unfolding inductorAmong
+none-among s zero h j m = absurd (omega arith)
+none-among s (suc k) h j m =
+    let n = nor (inductorAmong s k) (eqb (kindAt s k) inductor) .0 h in
+    below (λ (j : ℕ). isInductor (recordAt s j) ≡ false) k j (ltb j k) refl (n .1) (none-among s k (n .0) j) m
 
 no-source : (r q : List ℕ) → hasSource q ≡ false → shares r q ≡ false
 unfolding shares

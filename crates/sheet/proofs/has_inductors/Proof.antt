@@ -1,4 +1,4 @@
--- `groups::storage::has_inductors` meets its contract: the records passed have been asked, each by its first byte. Assumes nothing.
+-- `sheet::has_inductors` meets its contract: the records passed have been asked, each by its first byte. Assumes nothing.
 use borrow.Author.Needs.{needs}
 use Prim.Native.Nat.{ℕ, _+_, _*_, _-_, _/_, _≤_, _<_}
 use mathlib.Core.Path.{_≡_, refl, sym, ap, _∙_}
@@ -9,11 +9,11 @@ use native.Mathlib.Numerals.{add-one}
 use native.Mathlib.Omega.{arith}
 use lib.Dec.{eqb}
 use Rattle.numbers.specs.Kinds.{inductor}
 use Rattle.sheet.specs.Record.{kindAt}
 use Rattle.sheet.specs.laws.Record.{first-byte}
-use Rattle.groups.specs.Storage.{inductorAmong}
-use Rattle.groups.proofs.storage.has_inductors.Statement.{statement}
-use Rattle.groups.proofs.storage.has_inductors.Tie as tie
+use Rattle.sheet.specs.Sharing.{inductorAmong}
+use Rattle.sheet.proofs.has_inductors.Statement.{statement}
+use Rattle.sheet.proofs.has_inductors.Tie as tie
 
 -- one record more
 asked : (sheet : List ℕ) (i k : ℕ) (found : Bool) → k ≡ kindAt sheet i → found ≡ inductorAmong sheet i → (found || eqb k inductor) ≡ inductorAmong sheet (i + 1)
