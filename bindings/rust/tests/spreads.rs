@@ -22,7 +22,7 @@ fn sheets(jobs: usize) -> Vec<u8> {
         let i_sat = if k % 7 == 2 { f64::INFINITY } else { 1e-12 };
         let mut sheet = divider(0.5 + 0.01 * (k * 37 % 50) as f64, 900.0 + k as f64, i_sat);
         match k % 55 {
-            4 => sheet[0] = 11,
+            4 => sheet[0] = 13,
             15 => sheet[40 + 39] = 1,
             26 => sheet[80 + 4] = 3,
             37 => sheet[10] = 1,
