@@ -9,7 +9,7 @@ use options::Options;
 use sheet::{Checked, Limits};
 
 // The counts of a run and the lengths of what is lent to it. A DC run has no rows: `transient` tells whether `rows` counts.
-#[derive(Drop)]
+#[derive(Clone, Copy)]
 pub struct Sizes {
     pub nodes: usize,
     pub sources: usize,

@@ -5,7 +5,7 @@ ghost use Rattle.decimal.specs.Shortest.{Fair, span_of, low_edge, least_of, most
 use super::scale::Cut;
 
 // The decimal units that a float comes to, cut to a whole number, whether that is all of it, and the least and the most units that read back to it.
-#[derive(Drop)]
+#[derive(Clone, Copy)]
 pub struct Span {
     pub whole: u64,
     pub even: bool,

@@ -14,7 +14,7 @@ use sheet::Checked;
 use steps::Job;
 
 // How a run ended: its verdict, the verdict of its DC part, the passes solved, the rows written and the time reached; and whether a diode was then behind.
-#[derive(Drop)]
+#[derive(Clone, Copy)]
 pub struct Ending {
     pub verdict: u8,
     pub dc: u8,
@@ -26,7 +26,7 @@ pub struct Ending {
 }
 
 // The number of a refusal and the place of the record, or how the run ended.
-#[derive(Drop)]
+#[derive(Clone, Copy)]
 pub enum Outcome {
     Refused(u8, usize),
     Ended(Ending),

@@ -13,7 +13,7 @@ const MEMORY: u64 = jobs::MEMORY as u64;
 const ROW_FLOATS: u64 = buffers::ROW_FLOATS as u64;
 
 // The first field in which an answer differs from the stored one; or none, or that the job cannot be read.
-#[derive(Drop)]
+#[derive(Clone, Copy)]
 pub enum Found {
     Nothing,
     Refusal,
@@ -34,7 +34,7 @@ pub enum Found {
 }
 
 // An answer's numbers, as they are stored.
-#[derive(Drop)]
+#[derive(Clone, Copy)]
 pub struct Numbers {
     pub refusal: u64,
     pub place: u64,

@@ -2,7 +2,7 @@
 use libc::STDERR_FILENO;
 use std::num::wrapping_sub_u64;
 
-#[derive(Drop)]
+#[derive(Clone, Copy)]
 pub struct Clock {
     pub terminal: bool, // standard error is one
     pub begun: u64, // in seconds

@@ -7,7 +7,7 @@ use super::clock::Clock;
 use pen::Pen;
 use shell::Seen;
 
-#[derive(Drop)]
+#[derive(Clone, Copy)]
 pub struct Going {
     pub pen: Pen,
     pub seen: Seen,

@@ -97,7 +97,7 @@ struct Left {
 }
 
 // For each job its vector, its cause with the place of that, and its passes.
-#[derive(Drop)]
+#[derive(Clone, Copy)]
 struct ByJob {
     vectors: [f64; JOBS * UNKNOWNS],
     causes: [u64; JOBS],
@@ -106,7 +106,7 @@ struct ByJob {
 }
 
 // The counts of the causes, and the exact sums over the settled jobs and over the sound ones.
-#[derive(Drop)]
+#[derive(Clone, Copy)]
 struct OverAll {
     counts: [u64; JOB_CAUSES],
     plus: [u64; SUM_LIMBS],

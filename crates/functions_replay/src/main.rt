@@ -28,7 +28,7 @@ fn main() {
 }
 
 // What was found of one function.
-#[derive(Drop)]
+#[derive(Clone, Copy)]
 pub struct Tally {
     pub count: u64,
     pub differ: u64,

@@ -11,7 +11,7 @@ ghost use Rattle.groups.specs.Sources.{driven_of};
 ghost use Rattle.groups.specs.Stamping.{base_of, completed, linear_of};
 
 // Which pass is stamped: the node count, the order (nodes and sources), in the transient the time and the step, and whether patterns go by the rule of the option.
-#[derive(Drop)]
+#[derive(Clone, Copy)]
 pub struct Pass {
     pub nodes: usize,
     pub order: usize,

@@ -10,7 +10,7 @@ const KNOWN: u8 = 15;
 // What an answer has for a number that it does not tell, and that is not compared.
 pub const NOT_TOLD: u64 = 18446744073709551615;
 
-#[derive(Drop)]
+#[derive(Clone, Copy)]
 pub struct Answer {
     pub refusal: u64,
     pub place: u64,

@@ -9,7 +9,7 @@ const FORM_1: u8 = 30;
 
 const KNOWN: u8 = 32;
 
-#[derive(Drop)]
+#[derive(Clone, Copy)]
 pub struct Head {
     pub bytes: u64, // of the job
     pub head: u64, // of its head

@@ -8,7 +8,7 @@ const FORM_1: u8 = 28;
 const KNOWN: u8 = 28;
 
 // The lengths that a call of spreads lends.
-#[derive(Drop)]
+#[derive(Clone, Copy)]
 pub struct Lengths {
     pub base: u64, // floats, as in the four that follow
     pub system: u64,
@@ -23,7 +23,7 @@ pub struct Lengths {
     pub minus: u64,
 }
 
-#[derive(Drop)]
+#[derive(Clone, Copy)]
 pub struct SpreadsReport {
     pub lent: Lengths,
     pub refusal: u64,

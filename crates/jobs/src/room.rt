@@ -11,7 +11,7 @@ pub const VECTOR: usize = UNKNOWNS + 16;
 pub const MEMORY: usize = RECORDS + 8;
 
 // The buffers of a run but for its rows, whose number is the program's to choose.
-#[derive(Drop)]
+#[derive(Clone, Copy)]
 pub struct Rooms {
     pub base: [f64; MATRIX],
     pub system: [f64; MATRIX],

@@ -9,7 +9,7 @@ const FORM_1: u8 = 25;
 
 const KNOWN: u8 = 32;
 
-#[derive(Drop)]
+#[derive(Clone, Copy)]
 pub struct Spreads {
     pub jobs: u64,
     pub nodes: u64,

@@ -6,7 +6,7 @@ ghost use Rattle.exact.specs.Sums.{Sums};
 ghost use Rattle.num.specs.Lists.{every};
 ghost use Rattle.judge.specs.Judge.{allowed as allowedFor, total, residual, holds, named, judge_refusal, judge_of, Readable, Given};
 
-#[derive(Drop)]
+#[derive(Clone, Copy)]
 pub enum Judged {
     // every row stays within its tolerance
     Accepted,

@@ -13,7 +13,7 @@ const MOST_SYSTEM: usize = 2400;
 
 const MOST_VECTOR: usize = 64;
 
-#[derive(Drop)]
+#[derive(Clone, Copy)]
 struct Head {
     rows: usize,
     system: usize,
@@ -30,7 +30,7 @@ enum Outcome {
     End,
 }
 
-#[derive(Drop)]
+#[derive(Clone, Copy)]
 struct Tally {
     accepted: u64,
     rejected: u64,

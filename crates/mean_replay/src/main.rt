@@ -8,7 +8,7 @@ const SUMS: u64 = 65536;
 
 const TERMS: usize = 4096;
 
-#[derive(Drop)]
+#[derive(Clone, Copy)]
 struct Head {
     count: u64,
     terms: usize,
@@ -23,7 +23,7 @@ enum Outcome {
     End,
 }
 
-#[derive(Drop)]
+#[derive(Clone, Copy)]
 struct Tally {
     zeros: u64,
     subnormals: u64,

@@ -29,7 +29,7 @@ pub fn evaluate(points: &[u8], first: usize, count: usize, t_delay: f64, repeat:
         return 0.0;
     }
     let last = point_at(points, first, count - 1);
-    if past_end_lem(repeat, t, t_delay + last.time) {
+    if past_end(repeat, t, t_delay + last.time) {
         return last.level;
     }
     let t_cycle = (t - t_delay) % last.time;
@@ -40,7 +40,7 @@ pub fn evaluate(points: &[u8], first: usize, count: usize, t_delay: f64, repeat:
 }
 
 // Whether a pattern that does not repeat is over at time t.
-fn past_end_lem(repeat: f64, t: f64, end: f64) -> bool
+fn past_end(repeat: f64, t: f64, end: f64) -> bool
     ensures { result ≡ past_end repeat t end }
 {
     if repeat < 0.0 {

@@ -1,6 +1,6 @@
 // The options of a run: one set of numbers, handed in by copy. Their floats may be any bits; the counts are checked where a run begins.
 #[repr(C)]
-#[derive(Drop)]
+#[derive(Clone, Copy)]
 pub struct Options {
     pub reltol: f64,
     pub vntol: f64,

@@ -5,7 +5,7 @@ ghost use Rattle.pen.specs.Pens.{new_pen, pen_of, in_form, at_file, at_job, note
 use libc::STDOUT_FILENO;
 
 // A sheet for a person; the names of the fields of each kind of record; a record as a line of fields apart by tabs; a record as a JSON object.
-#[derive(Drop)]
+#[derive(Clone, Copy)]
 pub enum Form {
     Person,
     Names,
@@ -13,7 +13,7 @@ pub enum Form {
     Json,
 }
 
-#[derive(Drop)]
+#[derive(Clone, Copy)]
 pub struct Pen {
     pub form: Form,
     pub file: u64, // the file's place among those named

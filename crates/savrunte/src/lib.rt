@@ -91,7 +91,7 @@ pub struct TransientAnswer {
 }
 
 #[repr(C)]
-#[derive(Drop)]
+#[derive(Clone, Copy)]
 pub struct SpreadsAnswer {
     pub refusal: u64,
     pub settled: u64,

@@ -12,15 +12,15 @@ ghost use Rattle.sheet.specs.Sharing.{inductor_among};
 ghost use Rattle.sheet.specs.Check.{check_of, records_of, record_refusal, number_of, place_of, bad_sheet, bad_points};
 
 // A node's number; ground is 0.
-#[derive(Drop)]
+#[derive(Clone, Copy)]
 pub struct NodeId(pub u16);
 
 // A source's number, which is no node's.
-#[derive(Drop)]
+#[derive(Clone, Copy)]
 pub struct SourceId(pub u16);
 
 // What a record stands for; each kind carries its own numbers and no others.
-#[derive(Drop)]
+#[derive(Clone, Copy)]
 pub enum Element {
     R {
         a: NodeId,
@@ -104,14 +104,14 @@ pub enum Decoded {
 }
 
 // What a sheet's check finds: nothing, or the first faulty record's lowest refusal of 6 to 10 and its place.
-#[derive(Drop)]
+#[derive(Clone, Copy)]
 pub enum Checked {
     Clean,
     Faulty(u8, usize),
 }
 
 // The counts that an element's numbers are held against: of nodes, of sources, and of points given.
-#[derive(Drop)]
+#[derive(Clone, Copy)]
 pub struct Limits {
     pub nodes: usize,
     pub sources: usize,

@@ -5,7 +5,7 @@ ghost use Rattle.shell.specs.Asked.{nothing_asked, faulty, with_fault, described
 use super::word::Word;
 
 // What was asked for so far.
-#[derive(Drop)]
+#[derive(Clone, Copy)]
 pub struct Asked {
     pub tsv: bool,
     pub json: bool,
@@ -18,7 +18,7 @@ pub struct Asked {
 }
 
 // What is wrong with the arguments.
-#[derive(Drop)]
+#[derive(Clone, Copy)]
 pub enum Fault {
     Nothing,
     // an option that there is not

@@ -7,7 +7,7 @@ use judge::Judged;
 use sound::Soundings;
 
 // What was seen so far.
-#[derive(Drop)]
+#[derive(Clone, Copy)]
 pub struct Seen {
     // an argument, a file or a whole call is at fault, or something could not be written
     pub fault: bool,

@@ -10,7 +10,7 @@ use engine::Outcome;
 use options::Options;
 
 // What is written down for a job: its verdict or its refusal, the faulty record's place, and the passes solved; and the first diode that is behind in its vector, 0 for none, else 1 and the record's place.
-#[derive(Drop)]
+#[derive(Clone, Copy)]
 pub struct Mark {
     pub number: u64,
     pub place: u64,

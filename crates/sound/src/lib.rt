@@ -17,7 +17,7 @@ pub use reports::Reports;
 use spreads::refusals::Lent;
 
 // The number of a refusal, or the two reports.
-#[derive(Drop)]
+#[derive(Clone, Copy)]
 pub enum Soundings {
     Refused(u8),
     Done(Reports),

@@ -8,7 +8,7 @@ use numbers::limit::{JOBS, SUM_LIMBS};
 use tally::Report;
 
 // Over the settled jobs, and over the sound ones: in the second `settled` counts the sound jobs.
-#[derive(Drop)]
+#[derive(Clone, Copy)]
 pub struct Reports {
     pub settled: Report,
     pub sound: Report,

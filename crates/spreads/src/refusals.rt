@@ -8,7 +8,7 @@ use numbers::limit::{JOB_NUMBERS, JOBS, SUM_LIMBS};
 use options::Options;
 
 // The counts of a call and the lengths of what is lent to it.
-#[derive(Drop)]
+#[derive(Clone, Copy)]
 pub struct Lent {
     pub jobs: usize,
     pub nodes: usize,

@@ -4,7 +4,7 @@ use jobs::{Lengths, Spreads, SpreadsReport, within, within_words};
 use savrunte::SpreadsAnswer;
 
 // The first field in which a call differs from the stored report; or none, or that it cannot be read.
-#[derive(Drop)]
+#[derive(Clone, Copy)]
 pub enum Found {
     Nothing,
     Refusal,
@@ -67,7 +67,7 @@ struct Left {
 }
 
 // .. for each job, ..
-#[derive(Drop)]
+#[derive(Clone, Copy)]
 struct Lists {
     totals: Totals,
     vectors: [f64; rooms::VECTOR_ROOM],
@@ -77,7 +77,7 @@ struct Lists {
 }
 
 // .. and over all jobs, with its answer.
-#[derive(Drop)]
+#[derive(Clone, Copy)]
 struct Totals {
     answer: SpreadsAnswer,
     counts: [u64; rooms::LIST_ROOM],

@@ -16,7 +16,7 @@ pub const TRANSIENT: u8 = 1;
 pub const ENDED: u8 = 2;
 
 // What a run is asked for, and no pass changes: the options, the node count, and whether a transient follows DC.
-#[derive(Drop)]
+#[derive(Clone, Copy)]
 pub struct Job {
     pub options: Options,
     pub nodes: usize,
@@ -25,7 +25,7 @@ pub struct Job {
 
 // All that a run carries from pass to pass besides its buffers.
 #[repr(C)]
-#[derive(Drop)]
+#[derive(Clone, Copy)]
 pub struct Counters {
     // DC, TRANSIENT, else ended
     pub phase: u8,
@@ -48,7 +48,7 @@ pub struct Counters {
 }
 
 // What became of a pass: solved, with what the convergence check says of it; or not solved, for a diode or a sine.
-#[derive(Drop)]
+#[derive(Clone, Copy)]
 pub enum Report {
     Yes,
     No,

@@ -10,7 +10,7 @@ use numbers::limit::{JOB_NUMBERS, JOBS, SUM_LIMBS};
 use numbers::verdict::SETTLED;
 
 // Over the settled jobs: how many, and the smallest and the largest of the chosen unknown with the job where it stands, the earliest on a tie. All 0 where none settled.
-#[derive(Drop)]
+#[derive(Clone, Copy)]
 pub struct Report {
     pub settled: u64,
     pub smallest: f64,
@@ -63,13 +63,13 @@ fn count(numbers: &[u64], jobs: usize, k: u64) -> u64
 {
     let mut c = 0;
     for j in 0..jobs {
-        c = one_more_lem(c, numbers[j] == k);
+        c = one_more(c, numbers[j] == k);
     }
     c
 }
 
 // One more, where it is the same number.
-fn one_more_lem(c: u64, same: bool) -> u64
+fn one_more(c: u64, same: bool) -> u64
     requires { c < 2 ^ 64 - 1 }
     ensures { result ≡ cond same (c + 1) c }
 {

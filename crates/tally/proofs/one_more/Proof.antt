@@ -1,4 +1,4 @@
--- `tally::one_more_lem` meets its contract.
+-- `tally::one_more` meets its contract.
 use borrow.Author.Rules.{rules}
 use Rattle.tally.proofs.one_more.Statement.{statement}
 use Rattle.tally.proofs.one_more.Tie as tie
