@@ -8,7 +8,7 @@ ghost use Rattle.std.specs.Prelude.{◌≡◌, ◌&&◌, ◌+◌, ◌*◌, ◌^�
 ghost use Rattle.decimal.specs.Decimal.{decimal_of, of_pattern, steps_of};
 
 // A float in decimal: digits times 10^(place - 326) with its sign.
-#[derive(Drop)]
+#[derive(Clone, Copy)]
 pub enum Decimal {
     Nan,
     Infinite {

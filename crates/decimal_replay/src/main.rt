@@ -26,7 +26,7 @@ enum Outcome {
     End,
 }
 
-#[derive(Drop)]
+#[derive(Clone, Copy)]
 struct Tally {
     none: u64,
     fewer: u64,

@@ -102,7 +102,7 @@ pub struct SpreadsAnswer {
 }
 
 #[repr(C)]
-#[derive(Drop)]
+#[derive(Clone, Copy)]
 pub struct SoundAnswer {
     pub refusal: u64,
     pub settled: u64,

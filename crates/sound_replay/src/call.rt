@@ -5,7 +5,7 @@ use num::f64_at;
 use savrunte::SoundAnswer;
 
 // The first field in which a call differs from the stored reports; or none, or that it cannot be read.
-#[derive(Drop)]
+#[derive(Clone, Copy)]
 pub enum Found {
     Nothing,
     Refusal,
@@ -80,7 +80,7 @@ struct Left {
 }
 
 // .. for each job, ..
-#[derive(Drop)]
+#[derive(Clone, Copy)]
 struct Lists {
     totals: Totals,
     vectors: [f64; rooms::VECTOR_ROOM],
@@ -90,7 +90,7 @@ struct Lists {
 }
 
 // .. and over all jobs, with its answer.
-#[derive(Drop)]
+#[derive(Clone, Copy)]
 struct Totals {
     answer: SoundAnswer,
     counts: [u64; rooms::LIST_ROOM],
