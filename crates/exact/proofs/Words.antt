@@ -1,5 +1,5 @@
 -- A product of two floats' digits as two words, and a shifted pair of words as three. Assumes nothing.
-use Rattle.std.proofs.Common.{◌≡◌, ℕ, ◌+◌, ◌-◌, ◌*◌, ◌/◌, ◌%◌, ◌^◌, ◌<◌, ◌≤◌, List, sym, ap, ◌∙◌, add_zero, mul-le-mul_right, mod-lt, div-lt_iff_lt-mul, mul-le-mul, div-add-mod', arith, lit<, pow_pos, pow-add}
+use Rattle.std.proofs.Common.{◌≡◌, ℕ, ◌+◌, ◌-◌, ◌*◌, ◌/◌, ◌%◌, ◌^◌, ◌<◌, ◌≤◌, List, sym, ap, ◌∙◌, add-zero, mul-le-mul_right, mod-lt, div-lt_iff_lt-mul, mul-le-mul, div-add-mod', arith, lit<, pow_pos, pow-add}
 use native.Mathlib.Nat.{div-div-eq-div-mul, mul-div-mul_right, mod-add-div, mul-mod_left}
 use Rattle.exact.specs.Limbs.{value}
 use Rattle.exact.specs.Rows.{Carried}
@@ -78,7 +78,7 @@ shared p q s h g = go (2 ^ s) (2 ^ (64 - s)) (p * 2 ^ s / 2 ^ 64) (q % 2 ^ (64 -
         sum a l = omega arith
 
     rest : q * 2 ^ s % 2 ^ 64 ≡ q % 2 ^ (64 - s) * 2 ^ s
-    rest = ap (λ (n : ℕ). q * 2 ^ s % n) (sym whole ∙ sym (pow-add 2 (64 - s) s)) ∙ mod-pow-add (q * 2 ^ s) (64 - s) s ∙ (λ i. shl-shr q s i % 2 ^ (64 - s) * 2 ^ s + mul-mod_left q (2 ^ s) i) ∙ add_zero _
+    rest = ap (λ (n : ℕ). q * 2 ^ s % n) (sym whole ∙ sym (pow-add 2 (64 - s) s)) ∙ mod-pow-add (q * 2 ^ s) (64 - s) s ∙ (λ i. shl-shr q s i % 2 ^ (64 - s) * 2 ^ s + mul-mod_left q (2 ^ s) i) ∙ add-zero _
 
     below : (a b : ℕ) → a < 2 ^ 64 → a * 2 ^ b / 2 ^ 64 < 2 ^ b
     below a b l = (div-lt_iff_lt-mul (lit< tt)).1 (less a (2 ^ b) (pow_pos b) l)

@@ -5,7 +5,7 @@ use lib.Dec.{eqb-suc-zero}
 use lib.Pow.{mod-pow-add}
 use lib.Count.{count_leading_zeros, leading_top, leading_of_zero}
 use lib.Ieee.{size}
-use lib.Ieee.Digits.{size_lt, size-le}
+use lib.Ieee.Digits.{size-lt, size-le}
 use Rattle.exact.specs.Limbs.{value}
 use Rattle.exact.proofs.Order.{split, low}
 use Rattle.mean.specs.Leading.{dropped_of, marked, Top}
@@ -131,7 +131,7 @@ clear_is l p w =
 -- ---- how many digits are dropped
 
 pub size_gt : (n j : ℕ) → 2 ^ j ≤ n → j < size n
-size_gt n j h = lt_of_not-le (λ (g : size n ≤ j). not-le_of_lt (lt_of_lt_of_le (size_lt n) (pow_mono g)) h)
+size_gt n j h = lt_of_not-le (λ (g : size n ≤ j). not-le_of_lt (lt_of_lt_of_le (size-lt n) (pow_mono g)) h)
 
 module _ (l : List ℕ) (h : ℕ) (w : Limbs l) (t : Top l h) where
   abbrev top : ℕ
@@ -188,7 +188,7 @@ module _ (l : List ℕ) (h : ℕ) (w : Limbs l) (t : Top l h) where
 
 pub kept_short : (q k : ℕ) → k ≡ dropped_of q → q / 2 ^ (1072 + k) < 2 ^ 55
 unfolding dropped_of
-kept_short q k e = shr_lt 55 (1072 + k) (lt_of_lt_of_le ((div-lt_iff_lt-mul (pow_pos 1074)).0 (size_lt (q / 2 ^ 1074))) (subst (λ (n : ℕ). n ≤ 2 ^ (55 + (1072 + k))) (pow-add 2 (size (q / 2 ^ 1074)) 1074) (pow_mono (go (size (q / 2 ^ 1074)) k e))))
+kept_short q k e = shr_lt 55 (1072 + k) (lt_of_lt_of_le ((div-lt_iff_lt-mul (pow_pos 1074)).0 (size-lt (q / 2 ^ 1074))) (subst (λ (n : ℕ). n ≤ 2 ^ (55 + (1072 + k))) (pow-add 2 (size (q / 2 ^ 1074)) 1074) (pow_mono (go (size (q / 2 ^ 1074)) k e))))
   where
     go : (n a : ℕ) → a ≡ n - 53 → n + 1074 ≤ 55 + (1072 + a)
     go n a f = omega arith

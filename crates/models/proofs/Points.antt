@@ -3,7 +3,7 @@ use Prim.Native.Nat.{ℕ, zero, suc, ◌+◌, ◌-◌, ◌*◌, ◌/◌, ◌<◌
 use mathlib.Core.Path.{◌≡◌, refl, sym}
 use mathlib.Core.Bool.{true, false, not, cond}
 use mathlib.Core.List.{List, ◌∷◌}
-use native.Mathlib.Nat.{add_zero}
+use native.Mathlib.Nat.{add-zero}
 use native.Mathlib.Omega.{arith}
 use borrow.Author.Tests.{ne_eqb}
 use lib.ListN.{length}
@@ -49,7 +49,7 @@ unfolding pattern_first_at points_from
 some_first s k zero delay repeat t p l h e f = absurd (omega arith)
 some_first s k (suc n) delay repeat t p l h e f =
     let z : suc n - 1 ≡ n = omega arith in
-    rw (e, f, z, add_zero, last_at s k n, single_at s (k + 1) n)
+    rw (e, f, z, add-zero, last_at s k n, single_at s (k + 1) n)
 
 pub no_point : (tc t1 v1 : Float) (s : List ℕ) (k n : ℕ) → n ≡ 0 → between tc t1 v1 (points_from s k n) ≡ record { t1 = t1; v1 = v1; t2 = nought; v2 = nought }
 unfolding between points_from

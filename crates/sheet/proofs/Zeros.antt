@@ -1,10 +1,10 @@
 -- A little-endian number is zero exactly when each of its bytes is.
 use Prim.Native.Nat.{ℕ, zero, suc, ◌+◌, ◌*◌, ◌<◌}
 use mathlib.Core.Path.{◌≡◌, refl}
-use mathlib.Core.Bool.{Bool, true, false, ◌&&◌, and_true, and_assoc}
+use mathlib.Core.Bool.{Bool, true, false, ◌&&◌, and-true, and_assoc}
 use mathlib.Core.List.{List}
 use native.Mathlib.Omega.{arith}
-use native.Mathlib.Nat.{zero-add, add_zero, suc-add, mul-zero, mul-le-mul_right}
+use native.Mathlib.Nat.{zero-add, add-zero, suc-add, mul-zero, mul-le-mul_right}
 use borrow.Author.Tests.{eq-eqb, ne_eqb, eqb-true, eqb-false}
 use lib.ListN.{get_or}
 use lib.Dec.{eqb}
@@ -23,7 +23,7 @@ module _ (k a b : ℕ) (h : 0 < k) where
 
 split : (r : List ℕ) (at n m : ℕ) → zeros r at (n + m) ≡ (zeros r at n && zeros r (at + n) m)
 unfolding zeros
-split r at zero m = rw (zero-add, add_zero)
+split r at zero m = rw (zero-add, add-zero)
 split r at (suc n) m =
     let p : at + suc n ≡ at + 1 + n = omega arith in
     rw (suc-add, p, split r (at + 1) n m, and_assoc)
@@ -31,7 +31,7 @@ split r at (suc n) m =
 module _ (r : List ℕ) (at : ℕ) where
   pub zero16 : eqb (le16 r at) 0 ≡ zeros r at 2
   unfolding zeros
-  zero16 = rw (and_true) (both 256 (get_or r at 0) (get_or r (at + 1) 0) (omega arith))
+  zero16 = rw (and-true) (both 256 (get_or r at 0) (get_or r (at + 1) 0) (omega arith))
 
 pub zero32 : (r : List ℕ) (at : ℕ) → eqb (le32 r at) 0 ≡ zeros r at 4
 unfolding le32

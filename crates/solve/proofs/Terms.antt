@@ -4,7 +4,7 @@ use mathlib.Core.Logic.{⊎_elim}
 use mathlib.Core.Bool.{true, ◌&&◌}
 use mathlib.Core.List.{List}
 use Prim.Native.Nat.{ℕ, ◌+◌, ◌-◌, ◌<◌, ◌≤◌}
-use native.Mathlib.Nat.{eq-or-lt_of_le, add_zero}
+use native.Mathlib.Nat.{eq-or-lt_of_le, add-zero}
 use native.Mathlib.Omega.{arith}
 use denote.Floats.{passes}
 use lib.Ieee.{Float, binary64, add, mul, eq}
@@ -44,7 +44,7 @@ module _ (row : ℕ → ℕ) (m x : List Float) (i j start : ℕ) (s : Float) (a
   four_added =
       let f = add_one row m x i in
       let here : start + (i + 1 + j) ≡ row i + (i + 1 + (j + 0)) = omega arith in
-      let first : one_more m x (start + (i + 1 + j)) (i + 1 + j) s ≡ f (j + 0) s = rw (here, add_zero j) in
+      let first : one_more m x (start + (i + 1 + j)) (i + 1 + j) s ≡ f (j + 0) s = rw (here, add-zero j) in
       one_is 3 _ ∙ ap (f (j + 3)) (one_is 2 _ ∙ ap (f (j + 2)) (one_is 1 _ ∙ ap (f (j + 1)) (first ∙ ap (f (j + 0)) e))) ∙ sym (turns-add f nought j 4)
 
   -- the sum's terms so far make one

@@ -10,7 +10,7 @@ use lib.Dec.{T, ltb}
 use lib.IntN.{ℤ, pos}
 use lib.Pow.{pow_pos}
 use lib.Ieee.{Float, nan, inf, fin, Format, binary64, prec, emax, low, up, down, unlike, size, odd, units, round, sum, add, mul, eq, fits, of_bits}
-use lib.Ieee.Digits.{size_lt, size_reaches}
+use lib.Ieee.Digits.{size-lt, size_reaches}
 use lib.Ieee.Fits.{two, down_pos, up_pos, round_is, add-fits, mul-fits}
 use lib.Ieee.Exact.{HasValue, odd_sign}
 use lib.Ieee.Nearest.{closest, nearest-ge}
@@ -108,7 +108,7 @@ large f a c p h = subst (λ (x : Float). minus_zero x ≡ false) (sym (round_is 
     whole = (le-div_iff_mul-le p).1 (subst (λ (z : ℕ). z ≤ n) (sym (one-mul c)) h)
 
     digits : k < size (n / c)
-    digits = ⊎_elim (λ g. absurd (omega (arith, whole, subst (λ (z : ℕ). n / c < 2 ^ z) (le_zero g) (size_lt (n / c))))) (λ g. omega (arith, two f)) (le_or_lt (size (n / c)) 0)
+    digits = ⊎_elim (λ g. absurd (omega (arith, whole, subst (λ (z : ℕ). n / c < 2 ^ z) (le_zero g) (size-lt (n / c))))) (λ g. omega (arith, two f)) (le_or_lt (size (n / c)) 0)
       where
         le_zero : size (n / c) ≤ 0 → size (n / c) ≡ 0
         le_zero g = omega arith

@@ -2,7 +2,7 @@
 -- Clients cite order_small, Fine, fine, clean_fine, and_none and cond_none.
 use Rattle.std.specs.Prelude.{ℕ, suc, ◌+◌, ◌*◌, ◌-◌, ◌/◌, ◌≤◌, ◌<◌, ◌≡◌, Bool, cond, ◌||◌, ◌&&◌, List}
 use Rattle.std.proofs.Math.Path.{refl, ap}
-use Rattle.std.proofs.Math.Bool.{true, false, or_true}
+use Rattle.std.proofs.Math.Bool.{true, false, or-true}
 use mathlib.Mathlib.Data.Bool.Basic.{or-eq-false-eq-eq-false-and-eq-false as neither}
 use Rattle.std.proofs.Math.Dec.{eqb, ltb}
 use borrow.Author.Tests.{eqb-true, eqb-false, ltb-true, ltb-false, lt-ltb}
@@ -32,7 +32,7 @@ module _ (nodes sources : ℕ) where
   unfolding bad_order
   order_above h =
       let e : ltb most_unknowns (nodes + sources) ≡ true = lt-ltb most_unknowns (nodes + sources) (omega arith) in
-      rw e (or_true (eqb nodes 0))
+      rw e (or-true (eqb nodes 0))
 
   pub order_below : nodes ≤ most_unknowns → bad_order nodes sources ≡ (eqb nodes 0 || ltb (most_unknowns - nodes) sources)
   unfolding bad_order

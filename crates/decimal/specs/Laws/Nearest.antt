@@ -6,7 +6,7 @@ use Rattle.std.proofs.Math.Dec.{is_le, compare_is_eq, nleb→lt, eqb_refl}
 use Rattle.std.proofs.Math.Arith.{lt_of_le-ne}
 use Rattle.std.specs.Float.{fin, binary64}
 use Rattle.std.specs.Float.Ieee.{low, up, size, nearest, units, round, fits}
-use Rattle.std.specs.Float.Ieee.Digits.{size_lt, size-le}
+use Rattle.std.specs.Float.Ieee.Digits.{size-lt, size-le}
 use Rattle.std.specs.Float.Ieee.Fits.{round_is, round-fits}
 use Rattle.std.specs.Float.Ieee.Exact.{HasValue, units_val}
 use Rattle.std.specs.Float.Ieee.Nearest.{closest}
@@ -145,7 +145,7 @@ steps_are m n U L p l s = closest_is n U m p (low (mul-le-mul_right U l)) high (
 -- ---- the nearest float
 
 size_gt : (n j : ℕ) → 2 ^ j ≤ n → j < size n
-size_gt n j h = lt_of_not-le (λ (g : size n ≤ j). not-le_of_lt (lt_of_lt_of_le (size_lt n) (pow_mono g)) h)
+size_gt n j h = lt_of_not-le (λ (g : size n ≤ j). not-le_of_lt (lt_of_lt_of_le (size-lt n) (pow_mono g)) h)
 
 -- m steps of 2 ^ j units; L is the lower edge in quarter steps: a quarter of a step below a power of two that has closer floats below it, half a step otherwise
 pub record Steps (m j L : ℕ) : Type 0 where

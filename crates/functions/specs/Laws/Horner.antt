@@ -2,7 +2,7 @@
 -- `falling_near` where the signs alternate. A table of words is held against the table of exact terms by one computed test, and its words against 2 ^ 62 by another (`small`),
 -- so that how large a sum is (`horner_small`) does not hang on the terms. Assumes nothing.
 use Rattle.std.specs.Prelude.{◌≡◌, ℕ, zero, suc, ◌+◌, ◌-◌, ◌*◌, ◌/◌, ◌^◌, ◌<◌, ◌≤◌, Bool, true, false, not, ◌&&◌, T, List, [], ◌∷◌, length, nat_le, refl}
-use Rattle.std.proofs.Common.{sym, ap, ◌∙◌, le_trans, mul-le-mul, mul-le-mul_left, mul-le-mul_right, le_of_mul-le-mul_right, mul-one, mul-zero, zero-mul, add_zero, mul_assoc, mul_comm, pow-suc, sub-add_cancel, sub-le, arith, leb→le, lit<, lit≤}
+use Rattle.std.proofs.Common.{sym, ap, ◌∙◌, le_trans, mul-le-mul, mul-le-mul_left, mul-le-mul_right, le_of_mul-le-mul_right, mul-one, mul-zero, zero-mul, add-zero, mul_assoc, mul_comm, pow-suc, sub-add_cancel, sub-le, arith, leb→le, lit<, lit≤}
 use Rattle.std.proofs.Math.Path.{subst}
 use Rattle.std.proofs.Math.Nat.{div-le_of_le-mul, lt-div-mul-add, sub-zero, zero-div, pow-zero}
 use Rattle.std.specs.Float.Ieee.Fits.{and_l, and_r}
@@ -81,7 +81,7 @@ module _ (h Y U N : ℕ) (yl : Y * N ≤ U * 2 ^ 64) (yh : U * 2 ^ 64 ≤ (Y + 3
     one : (c a : ℕ) → T (near s h c a) → Close (c + 0 * Y / 2 ^ 64) (a * N ^ 0 + U * 0) (h * N ^ 0) s
     one c a t =
         let w = two t in
-        rw (zero-mul Y, zero-div (2 ^ 64), add_zero c, pow-zero N, mul-zero U, mul-one a, mul-one h, add_zero a)
+        rw (zero-mul Y, zero-div (2 ^ 64), add-zero c, pow-zero N, mul-zero U, mul-one a, mul-one h, add-zero a)
         (record { low = w.0; high = w.1 })
 
     eighth : 8 * Y ≤ 2 ^ 64
@@ -190,7 +190,7 @@ module _ (h Y U N : ℕ) (yl : Y * N ≤ U * 2 ^ 64) (yh : U * 2 ^ 64 ≤ (Y + 3
   first : (c a : ℕ) → c ≤ 2 ^ 62 → T (word h c a) → Near (c - 0 * Y / 2 ^ 64) (a * N ^ 0 + U * 0) (0 * N ^ 0 + U * 0) (h * N ^ 0) c
   first c a g t =
       let w = two t in
-      rw (zero-mul Y, zero-div (2 ^ 64), sub-zero c, pow-zero N, mul-zero U, mul-one a, mul-one h, add_zero a, mul-one 0)
+      rw (zero-mul Y, zero-div (2 ^ 64), sub-zero c, pow-zero N, mul-zero U, mul-one a, mul-one h, add-zero a, mul-one 0)
       (record { sum = a; split = omega arith; low = grow (c * h) (a * 2 ^ 62) h w.0; high = wider c h (a * 2 ^ 62) w.1; small = omega arith; most = g })
     where
       grow : (x y z : ℕ) → x ≤ y → x ≤ y + 8 * z

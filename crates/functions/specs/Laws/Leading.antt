@@ -7,7 +7,7 @@ use Rattle.std.specs.Int.Count.{count_leading_zeros}
 use Rattle.std.proofs.lemmas.Nat.{leading_le}
 use Rattle.std.specs.Float.{binary64}
 use Rattle.std.specs.Float.Ieee.{fits, size}
-use Rattle.std.specs.Float.Ieee.Digits.{size_lt, size-le}
+use Rattle.std.specs.Float.Ieee.Digits.{size-lt, size-le}
 use Rattle.std.specs.Float.Ieee.Positive.{num, den, den_pos, positive, positive-finite}
 use Rattle.functions.specs.Words.{size_of, units_of}
 use Rattle.functions.specs.Ln.{leading_of, ln_answer, ln_positive, Digits}
@@ -102,7 +102,7 @@ subnormal_leads t p h =
 pub size_is : (z q c : ℕ) → z * 2 ^ 53 ≡ q * 2 ^ c → 2 ^ 52 ≤ q → q < 2 ^ 53 → size z ≡ c
 size_is z q c e lo hi =
     let below : z < 2 ^ c = lt_of_mul-lt-mul_right (2 ^ 53) (subst (λ (n : ℕ). n < 2 ^ c * 2 ^ 53) (sym e) (subst (λ (n : ℕ). q * 2 ^ c < n) (mul_comm (2 ^ 53) (2 ^ c)) (mul-lt-mul_of_pos_right hi (pow_pos c)))) in
-    le_antisymm (size-le z c below) (lt_up c (size z) (lt_of_not-le (λ (g : suc (size z) ≤ c). not-le_of_lt (twice (size_lt z) (pow_mono g)) (half (mul-le-mul_right (2 ^ c) lo)))))
+    le_antisymm (size-le z c below) (lt_up c (size z) (lt_of_not-le (λ (g : suc (size z) ≤ c). not-le_of_lt (twice (size-lt z) (pow_mono g)) (half (mul-le-mul_right (2 ^ c) lo)))))
   where
     lt_up : (x y : ℕ) → x < suc y → x ≤ y
     lt_up x y p = omega arith

@@ -8,7 +8,7 @@ use Rattle.std.proofs.Math.Dec.{nleb→lt}
 use Rattle.std.specs.Float.{nan, inf, fin}
 use Rattle.std.specs.Float.Ieee.{binary64, unlike, neg, up, down, size}
 use Rattle.std.specs.Float.Ieee.Scale.{finite}
-use Rattle.std.specs.Float.Ieee.Digits.{size_lt, size-le}
+use Rattle.std.specs.Float.Ieee.Digits.{size-lt, size-le}
 use Rattle.std.specs.Float.Ieee.Positive.{num, den, den_pos}
 use Rattle.functions.specs.declared.Sine.{Sine}
 use Rattle.functions.specs.declared.Sine.TheVariants.{Value, Refused}
@@ -220,7 +220,7 @@ module _ (n d : ℕ) (dp : 0 < d) (small : 4 * n < d) where
   left_is = reduced.all_left quarter n d (lit≤ tt) small
 
   units_lt : n * 2 ^ 1074 < 2 ^ c * d
-  units_lt = (div-lt_iff_lt-mul dp).0 (size_lt (n * 2 ^ 1074 / d))
+  units_lt = (div-lt_iff_lt-mul dp).0 (size-lt (n * 2 ^ 1074 / d))
 
   c_most : c ≤ 1072
   c_most = size-le (n * 2 ^ 1074 / d) 1072 ((div-lt_iff_lt-mul dp).1 (quarter_below n d small))

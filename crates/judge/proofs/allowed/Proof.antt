@@ -1,7 +1,7 @@
 -- `judge::allowed` meets its contract.
 use borrow.Author.Rules.{rules}
 use mathlib.Core.Path.{◌≡◌, sym, ap, ◌∙◌}
-use mathlib.Core.Bool.{Bool, true, false, not, ◌&&◌, and_true, and-false}
+use mathlib.Core.Bool.{Bool, true, false, not, ◌&&◌, and-true, and-false}
 use mathlib.Core.Logic.{⊎_elim}
 use lib.Ieee.{Float, lt}
 use lib.Ieee.Scale.{finite}
@@ -14,7 +14,7 @@ below : (x : Float) (b : Bool) → b ≡ true → lt x nought ≡ true → false
 below x b e f = rw e (sym (ap (λ (c : Bool). finite x && not c) f ∙ and-false (finite x)))
 
 not-below : (x : Float) (b : Bool) → b ≡ true → lt x nought ≡ false → finite x ≡ allowed b x
-not-below x b e f = rw e (sym (ap (λ (c : Bool). finite x && not c) f ∙ and_true (finite x)))
+not-below x b e f = rw e (sym (ap (λ (c : Bool). finite x && not c) f ∙ and-true (finite x)))
 
 plain : (x : Float) (b : Bool) → b ≡ false → finite x ≡ allowed b x
 plain x b e = rw e

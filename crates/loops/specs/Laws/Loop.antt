@@ -1,6 +1,6 @@
 -- Laws of counting loops, and of lists that are overwritten from the front, copied, or given a row. Clients cite all of them. Assumes nothing.
 use Rattle.std.specs.Prelude.{◌≡◌, refl, ◌⊎◌, Bool, true, false, cond, List, [], ◌∷◌, ◌++◌, leb, get_or, set, take, drop, replicate, Float}
-use Rattle.std.proofs.Common.{sym, ap, ◌∙◌, subst, inl, inr, ⊎_elim, append-nil, le_antisymm, not-suc-le-zero, le_of_suc-le-suc, add_zero, add-suc, add-one, le-leb, leb-true, leb-false, length-append, length-drop, drop_of_length-le, drop-cons, length-take-le, get_or-append-add, get_or-drop}
+use Rattle.std.proofs.Common.{sym, ap, ◌∙◌, subst, inl, inr, ⊎_elim, append-nil, le_antisymm, not-suc-le-zero, le_of_suc-le-suc, add-zero, add-suc, add-one, le-leb, leb-true, leb-false, length-append, length-drop, drop_of_length-le, drop-cons, length-take-le, get_or-append-add, get_or-drop}
 use Prim.Native.Nat.{ℕ, zero, suc, ◌+◌, ◌-◌, ◌<◌, ◌≤◌, min}
 use native.Mathlib.Omega.{arith}
 use Rattle.std.proofs.lemmas.Bool.{lt-leb}
@@ -74,7 +74,7 @@ down_rel R f g (suc n) s t r h = down_rel R f g n (f n s) (g n t) (h n (omega ar
 
 -- a turns, and then b more
 pub turns-add : {S : Type 0} (f : ℕ → S → S) (s : S) (a b : ℕ) → turns (a + b) f s ≡ turns b (λ (i : ℕ). f (a + i)) (turns a f s)
-turns-add f s a zero = rw add_zero
+turns-add f s a zero = rw add-zero
 turns-add f s a (suc b) = rw add-suc (ap (f (a + b)) (turns-add f s a b))
 
 -- turns from a on that change nothing
@@ -94,7 +94,7 @@ module _ {A : Type 0} (s d : List A) where
   front_old i z h =
       let e : length (take i s) ≡ i = length-take-le i s h in
       let p = get_or-append-add (take i s) (drop i d) 0 z in
-      rw (e, add_zero, get_or-drop, add_zero) at p
+      rw (e, add-zero, get_or-drop, add-zero) at p
 
   -- all of s, where both are as long
   pub front_end : (i : ℕ) → length s ≤ i → length d ≤ i → front i s d ≡ s

@@ -1,7 +1,7 @@
 -- Floats that binary64 holds: each is what its value rounds to, so 0.0 taken off or added leaves it; a difference that is above zero does not round to zero; and which results are no NaN.
 -- Clients cite the laws marked pub. Assumes nothing.
 use Rattle.std.specs.Prelude.{ℕ, zero, suc, ◌+◌, ◌-◌, ◌*◌, ◌/◌, ◌^◌, ◌≤◌, ◌<◌, ◌≡◌, refl, Bool, true, false, not, ◌&&◌, ◌||◌, cond, T, ltb, eqb, ℤ, pos, negsuc, Float}
-use Rattle.std.proofs.Common.{sym, ap, ◌∙◌, subst, ⊎_elim, le_refl, add_zero, zero-add, sub-le, le_trans, le_of_eq, le_of_lt, zero-lt-suc, zero-mul, one-mul, mul-one, mul_comm, mul_assoc, mul_right_comm, mul-pos, mul-le-mul_right, arith, ltb-true, ltb-false, le-ltb, ne_eqb, eqb-true, ltb→lt, lt→ltb, pow_pos}
+use Rattle.std.proofs.Common.{sym, ap, ◌∙◌, subst, ⊎_elim, le_refl, add-zero, zero-add, sub-le, le_trans, le_of_eq, le_of_lt, zero-lt-suc, zero-mul, one-mul, mul-one, mul_comm, mul_assoc, mul_right_comm, mul-pos, mul-le-mul_right, arith, ltb-true, ltb-false, le-ltb, ne_eqb, eqb-true, ltb→lt, lt→ltb, pow_pos}
 use Rattle.std.specs.Bool.{beq}
 use Rattle.std.proofs.Math.Nat.{sub-zero}
 use Rattle.std.specs.Float.{nan, inf, fin, Format}
@@ -109,7 +109,7 @@ less_zero (fin s m e) h = go s h
     same u k = own u m e a (down e * 1) k (mul-pos (down_pos e) (pow_pos 0)) (over (m * up e) 1 (down e))
 
     go : (u : Bool) → T (fits binary64 (fin u m e)) → sum binary64 u a true (0 * 1 * down e) (down e * 1) ≡ fin u m e
-    go true k = rw (z, add_zero a) (same true k)
+    go true k = rw (z, add-zero a) (same true k)
     go false k = rw (z, le-ltb a 0 (omega arith), sub-zero a) (same false k)
 
 -- 0.0 added to a float above it leaves it
@@ -246,7 +246,7 @@ difference (fin false (suc m) e) (fin s n d) F G p z l = go s G z l
     go true G z l =
         let q : b ≡ 0 = ap (λ (k : ℕ). k * down e) (zero_size n d z) ∙ zero-mul (down e) in
         let r : 0 < a = omega (arith, ltb-true 0 (b + a) l) in
-        rw (q, add_zero a, ← sub-zero a) (far 0 0 r (zero-mul (2 ^ 1074) ∙ sym (zero-mul c)))
+        rw (q, add-zero a, ← sub-zero a) (far 0 0 r (zero-mul (2 ^ 1074) ∙ sym (zero-mul c)))
 
 -- ---- what is no NaN
 

@@ -1,7 +1,7 @@
 -- The remainder `%` of floats that binary64 holds: it is exact, a number from 0.0 up to y is its own remainder by y, and the remainder of any finite number not below 0.0 by a y above 0.0 is such a number.
 -- Clients cite rem_below, rem_nought, rem_zero, rem_within and rem_positive. Assumes nothing.
 use Rattle.std.specs.Prelude.{ℕ, zero, suc, ◌+◌, ◌-◌, ◌*◌, ◌%◌, ◌^◌, ◌≤◌, ◌<◌, ◌≡◌, refl, Bool, true, false, cond, T, leb, eqb, ℤ, pos, Float}
-use Rattle.std.proofs.Common.{sym, ap, ◌∙◌, subst, add_zero, le_trans, le_of_eq, le_of_lt, lt_of_lt_of_le, zero-lt-suc, zero-mul, mul-one, mul_comm, mul_assoc, mul_right_comm, mul-pos, mul-le-mul_right, mul-lt-mul_of_pos_right, lt_of_mul-lt-mul_right, mod-eq_of_lt, mod-lt, mul-div_cancel, lt_of_le_of_lt, arith, leb-true, leb-false, ltb-true, ltb-false, lt-ltb, le-ltb, ne_eqb, eq-eqb, ltb→lt, pow-add, pow_pos}
+use Rattle.std.proofs.Common.{sym, ap, ◌∙◌, subst, add-zero, le_trans, le_of_eq, le_of_lt, lt_of_lt_of_le, zero-lt-suc, zero-mul, mul-one, mul_comm, mul_assoc, mul_right_comm, mul-pos, mul-le-mul_right, mul-lt-mul_of_pos_right, lt_of_mul-lt-mul_right, mod-eq_of_lt, mod-lt, mul-div_cancel, lt_of_le_of_lt, arith, leb-true, leb-false, ltb-true, ltb-false, lt-ltb, le-ltb, ne_eqb, eq-eqb, ltb→lt, pow-add, pow_pos}
 use Rattle.std.proofs.Math.Nat.{zero-mod, mod-le, mul-mod_left}
 use Rattle.std.proofs.Math.Arith.{mod-mul}
 use Rattle.std.specs.Float.{nan, inf, fin, binary64}
@@ -81,7 +81,7 @@ rem_zero (fin s m e) (fin t n d) f h k = rw (eq-eqb n 0 (go t n h k))
 
 -- whole numbers: a common factor stays out of `%`
 whole_mod : (x m c : ℕ) → 0 < m → 0 < c → x * c % (m * c) ≡ x % m * c
-whole_mod x m c M C = mod-mul (x * c) M C ∙ rw (mul-div_cancel x C, mul-mod_left x c, add_zero (x % m * c))
+whole_mod x m c M C = mod-mul (x * c) M C ∙ rw (mul-div_cancel x C, mul-mod_left x c, add-zero (x % m * c))
 
 -- r has no more than k digits, and zeros after them
 record Few (k r : ℕ) : Type 0 where

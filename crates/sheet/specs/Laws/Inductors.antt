@@ -3,7 +3,7 @@
 use Rattle.std.specs.Prelude.{ℕ, zero, suc, ◌+◌, ◌-◌, ◌<◌, ◌≤◌, ◌≡◌, refl, Bool, true, false, cond, ltb, Float}
 use Rattle.std.proofs.Common.{sym, ◌∙◌, arith, zero-add, eq-eqb, ne_eqb, ltb-true, ltb-false}
 use Rattle.std.proofs.Math.Path.{ap}
-use Rattle.std.proofs.Math.Bool.{or_true}
+use Rattle.std.proofs.Math.Bool.{or-true}
 use Rattle.std.proofs.lemmas.Bool.{false≢true}
 use mathlib.Core.List.{List, [], ◌∷◌}
 use Rattle.numbers.specs.Kinds.{inductor}
@@ -56,7 +56,7 @@ module _ (s : List ℕ) (l : Limits) (clean : check_of s l ≡ Clean) (i j : ℕ
     where
       by : (c : Bool) → ltb i j ≡ c → le16 (record_at s j) 10 ≡ le16 (record_at s i) 10 → ⊥
       by true h e = apart (record_at s i) (record_at s j) (rw t) u v ((clean_right s l j clean b).own i (ltb-true i j h)) (sym e)
-      by false h e = apart (record_at s j) (record_at s i) (rw t (or_true (is_inductor (record_at s j)))) v u ((clean_right s l i clean a).own j (omega (arith, ltb-false i j h, d))) e
+      by false h e = apart (record_at s j) (record_at s i) (rw t (or-true (is_inductor (record_at s j)))) v u ((clean_right s l i clean a).own j (omega (arith, ltb-false i j h, d))) e
 
 -- In a clean sheet an inductor has its source number to itself: every other record, before it or after it, has another or none.
 pub inductor_alone :

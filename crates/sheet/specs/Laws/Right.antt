@@ -1,7 +1,7 @@
 -- The table's other half: a sheet is clean exactly when none of its records meets a condition of 6 to 10. Clients cite Right, right_sound, sound_right, passes, all_right and clean_right.
 use Rattle.std.specs.Prelude.{ℕ, zero, suc, ◌+◌, ◌<◌, ◌≤◌, ◌≡◌, refl, Bool, true, false, cond, List, [], ◌∷◌, eqb}
 use Rattle.std.proofs.Math.Path.{sym, subst}
-use Rattle.std.proofs.Common.{◌∙◌, arith, zero-add, add_zero, suc-add, lt-ltb, le-leb}
+use Rattle.std.proofs.Common.{◌∙◌, arith, zero-add, add-zero, suc-add, lt-ltb, le-leb}
 use Rattle.std.proofs.Math.Bool.{and-eq-true_iff as both}
 use Rattle.std.proofs.lemmas.Bool.{eqb-false}
 use Rattle.num.specs.Lists.{every}
@@ -138,7 +138,7 @@ module _ (s : List ℕ) (l : Limits) (i : ℕ) where
 -- the check passes over n records that are right
 pub passes : (s : List ℕ) (l : Limits) (n m i : ℕ) → ((j : ℕ) → i ≤ j → j < i + n → Right s l j) → check_from s l (n + m) i ≡ check_from s l m (i + n)
 unfolding check_from
-passes s l zero m i h = rw (zero-add, add_zero)
+passes s l zero m i h = rw (zero-add, add-zero)
 passes s l (suc n) m i h =
     let e : i + suc n ≡ i + 1 + n = omega arith in
     rw (suc-add, e) (passed s l i _ (right_sound s l i (h i (omega arith) (omega arith))) ∙ passes s l n m (i + 1) (λ j p q. h j (omega arith) (omega arith)))
@@ -146,7 +146,7 @@ passes s l (suc n) m i h =
 -- a sheet all of whose records are right is clean
 pub all_right : (s : List ℕ) (l : Limits) → ((i : ℕ) → i < records_of s → Right s l i) → check_of s l ≡ Clean
 unfolding check_from
-all_right s l h = rw add_zero at (passes s l (records_of s) 0 0 (λ j p q. h j (omega arith)))
+all_right s l h = rw add-zero at (passes s l (records_of s) 0 0 (λ j p q. h j (omega arith)))
 
 -- and the records of a clean sheet are right
 pub clean_right : (s : List ℕ) (l : Limits) (i : ℕ) → check_of s l ≡ Clean → i < records_of s → Right s l i

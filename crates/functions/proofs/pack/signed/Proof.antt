@@ -1,5 +1,5 @@
 -- `functions::pack::signed` meets its contract. Assumes nothing.
-use Rattle.std.proofs.Common.{◌≡◌, ℕ, ◌+◌, ◌^◌, ◌<◌, Bool, true, false, cond, not, T, sym, ap, ◌∙◌, subst, add_zero, arith, w64, Fits, rules}
+use Rattle.std.proofs.Common.{◌≡◌, ℕ, ◌+◌, ◌^◌, ◌<◌, Bool, true, false, cond, not, T, sym, ap, ◌∙◌, subst, add-zero, arith, w64, Fits, rules}
 use lib.Ieee.{Float, binary64, neg, of_bits, nan_bits, is_nan}
 use lib.Ieee.Bits.{nan_bits_is}
 use Rattle.functions.specs.Words.{packed, Room}
@@ -35,14 +35,14 @@ add-result c = subst (λ (n : ℕ). Fits w64 n) (sym (sum c)) (fits (s c) (packe
 
 number : (t : Bool) (b p : ℕ) → p < 2 ^ 64 → Room b p → T (not (nan_bits binary64 (packed b p + cond t (2 ^ 63) 0)))
 number true b p h r = packs_negated b p h r
-number false b p h r = subst (λ (n : ℕ). T (not (nan_bits binary64 n))) (sym (add_zero (packed b p))) (packs_number b p h r)
+number false b p h r = subst (λ (n : ℕ). T (not (nan_bits binary64 n))) (sym (add-zero (packed b p))) (packs_number b p h r)
 
 float-from-bits-result : tie.Need-float-from-bits-result
 float-from-bits-result c = subst (λ (n : ℕ). T (not (nan_bits binary64 n))) (sym (sum c)) (number (s c) (b c) (p c) (word c) c.before.before.requires)
 
 turned : (t : Bool) (n : ℕ) → n < 2 ^ 63 → of_bits binary64 (n + cond t (2 ^ 63) 0) ≡ cond t (neg (of_bits binary64 n)) (of_bits binary64 n)
 turned true n h = sym (bits_negated n h)
-turned false n h = ap (λ (m : ℕ). of_bits binary64 m) (add_zero n)
+turned false n h = ap (λ (m : ℕ). of_bits binary64 m) (add-zero n)
 
 returns : tie.Need-returns
 returns c = ap (λ (n : ℕ). of_bits binary64 n) (sum c) ∙ turned (s c) (packed (b c) (p c)) (low c)

@@ -1,7 +1,7 @@
 use borrow.Author.Rules.{rules}
 use Prim.Native.Nat.{◌+◌, ◌-◌, ◌≤◌}
 use mathlib.Core.Path.{◌≡◌, sym, ◌∙◌}
-use native.Mathlib.Nat.{add_zero, sub-zero}
+use native.Mathlib.Nat.{add-zero, sub-zero}
 use native.Mathlib.Omega.{arith}
 use Rattle.num.specs.Floats.{nought}
 use Rattle.models.specs.Vpwl.{between, points_from}
@@ -17,7 +17,7 @@ abbrev decreases-loop : tie.decreases-loop
 decreases-loop points first count t-cycle t1₀ v1₀ i₀ t1 v1 i = count - i
 
 loop-holds : tie.Need-loop-init invariant-loop decreases-loop
-loop-holds c = (search rules, rw (add_zero, sub-zero))
+loop-holds c = (search rules, rw (add-zero, sub-zero))
 
 returns : tie.Need-returns invariant-loop decreases-loop
 returns c =

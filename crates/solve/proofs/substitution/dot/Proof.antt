@@ -1,7 +1,7 @@
 use mathlib.Core.Path.{◌≡◌}
 use mathlib.Core.List.{List}
 use Prim.Native.Nat.{ℕ, ◌+◌}
-use native.Mathlib.Nat.{add_zero}
+use native.Mathlib.Nat.{add-zero}
 use lib.Ieee.{Float, binary64, add, mul}
 use Rattle.num.specs.Floats.{nought}
 use Rattle.loops.specs.Loop.{turns}
@@ -13,7 +13,7 @@ use Rattle.solve.proofs.substitution.dot.Tie as tie
 
 -- the sum's first term, with the unknown that comes by value
 first-term : (n i start : ℕ) (m x : List Float) (next : Float) → start ≡ row_start n i → next ≡ «at» x (i + 1) → add binary64 nought (mul binary64 («at» m (start + (i + 1))) next) ≡ turns 1 (add_one (row_start n) m x i) nought
-first-term n i start m x next e h = rw (e, h, add_zero (i + 1))
+first-term n i start m x next e h = rw (e, h, add-zero (i + 1))
 
 sparse-rest-requires : tie.Need-sparse-rest-requires
 sparse-rest-requires c κs =
