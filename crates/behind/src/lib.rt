@@ -1,5 +1,7 @@
 // Whether the diodes of a sheet have caught up. Convergence compares two vectors and does not ask whether the limiting has let go of a diode; this does. A diode is behind when the
 // voltage across it in a vector is not within tolerance of the voltage that it was last limited to. Runs tell the first such record, and wait for it where the options say so. Every function is total.
+#![tactic(auto)]
+
 ghost use Rattle.std.specs.Prelude.{◌≡◌};
 ghost use Rattle.behind.specs.Behind.{caught_up_of, diode_behind, behind_at, first_in, first_behind, number_of, behind_number};
 

@@ -1,5 +1,7 @@
 // What a run refuses before it touches anything: refusals 1 to 5 on counts, lengths and options, then the sheet's own 6 to 10, in their order.
 // Every public function is total.
+#![tactic(auto)]
+
 ghost use Rattle.std.specs.Prelude.{◌≡◌, ◌+◌, ◌≤◌};
 ghost use Rattle.numbers.specs.Limits.{most_unknowns};
 ghost use Rattle.checks.specs.Checks.{bad_order, bad_counts, bad_room, sizes_refusal, checked_of};

@@ -1,4 +1,6 @@
 // The convergence check: whether a solved vector agrees with the one before it. The Rust's `convergence_check`.
+#![tactic(auto)]
+
 ghost use Rattle.std.specs.Prelude.{◌≡◌, ◌≤◌, length};
 ghost use Rattle.convergence.specs.Convergence.{limit as limitOf, place as place_of, checked, convergence_of};
 

@@ -1,5 +1,7 @@
 // A float as decimal digits that read back to the very float, tried from one digit on.
 // Every function that another crate reaches is total. Programs print with it.
+#![tactic(auto)]
+
 mod limbs; // limbs.rt: a long number times and over a small one
 mod scale; // scale.rt: a number of quarter steps of a float, cut to a whole number of decimal units
 mod shortest; // shortest.rt: of the decimal numbers that read back to a float the one with the fewest digits

@@ -1,5 +1,7 @@
 // The engine's two public analyses. Each refuses and changes nothing, or runs within its budget and ends with one verdict. The answer and the buffers are `run_of` of the call
 // (specs/Engine.antt), for all input; the elimination matrix is scratch.
+#![tactic(auto)]
+
 mod begin;
 mod told;
 mod work;

@@ -1,5 +1,7 @@
 // Exact sums of floats and of their products, with no rounding at all: a sum is plus less minus, two rows of 66 limbs that the caller lends, in units of 2^-2148.
 // The judge sums with it, and whoever keeps a sum over many runs. Every function here is total: what cannot be added is refused, and then nothing changes.
+#![tactic(auto)]
+
 mod limbs; // limbs.rt: a number added to a row of limbs, the carry passed on
 mod parts; // parts.rt: a finite float as digits at a place
 

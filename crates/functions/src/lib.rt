@@ -1,5 +1,7 @@
 // exp, ln and sin for every float, with proved bounds, over whole numbers: the argument is taken apart and reduced exactly, and the sum is worked out in words of 64 bits.
 // It stands on `num`; the models come here. Each function has a file of its own, and they share `reduce`, `word` and `pack`.
+#![tactic(auto)]
+
 mod exponential;
 mod logarithm;
 mod pack;

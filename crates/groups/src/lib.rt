@@ -1,5 +1,7 @@
 // The stamping groups over a sheet: the base of a run, and what each pass adds to it. Every function is total: a record that does not decode writes
 // nothing, a number read past the end of a vector is no number, and nothing is written outside the system or past a buffer's end.
+#![tactic(auto)]
+
 pub mod diodes;
 mod plain;
 pub mod records;

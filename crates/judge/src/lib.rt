@@ -1,4 +1,6 @@
 // The judge: does the vector solve the system, row by row, within the row's tolerance, worked out without any rounding? It stands on exact sums alone and changes nothing.
+#![tactic(auto)]
+
 ghost use Rattle.std.specs.Prelude.{◌≡◌, true, false, ◌+◌, ◌*◌, ◌<◌, ◌≤◌, T};
 ghost use Rattle.std.specs.Float.Ieee.Scale.{finite};
 ghost use Rattle.exact.specs.Exact.{none, within};

@@ -1,5 +1,7 @@
 // Loops that every crate above stands on: copying, filling, a row put into a buffer, and 48 numbers to work in. Their meaning is in specs/Loop.antt, the laws of loops in specs/Laws/Loop.antt.
 // Every function here is total.
+#![tactic(auto)]
+
 ghost use Rattle.std.specs.Prelude.{◌≡◌, min, cond, length, replicate};
 ghost use Rattle.numbers.specs.Limits.{most_unknowns};
 ghost use Rattle.num.specs.Floats.{nought};

@@ -1,5 +1,7 @@
 // The run as a machine of passes: its definition and its laws are in specs/. The code here writes the rows, takes the accepted vector and says where a vector is taken; stamping, solving and the passes are in `passes`.
 // Every function here is total.
+#![tactic(auto)]
+
 ghost use Rattle.std.specs.Prelude.{◌≡◌};
 ghost use Rattle.machine.specs.State.{written_of};
 ghost use Rattle.machine.specs.Machine.{written_by, landed as landedOf, accepts as acceptsOf, takes as takesOf, accepted_by};

@@ -1,5 +1,7 @@
 // The mean of a sum that crate `exact` keeps: plus less minus, two rows of 66 limbs, over a count, correctly rounded.
 // Whoever keeps a sum over many runs ends with it. The one public function is total.
+#![tactic(auto)]
+
 mod leading; // leading.rt: the digits of a long number that a float keeps, with a mark for what lies below
 mod limbs; // limbs.rt: a row of limbs less another, and over a small number
 mod pack; // pack.rt: a float from its digits

@@ -1,5 +1,7 @@
 // Numbers at the bottom of everything: little-endian reads out of bytes, a float of any 64 bits, the absolute value and the test for finite.
 // Every function here is total. A byte past the end of a slice reads as 0. A number whose bytes are all there is read after one question and without any between them, so that it becomes one load.
+#![tactic(auto)]
+
 ghost use Rattle.std.specs.Prelude.{◌≡◌, ◌+◌, ◌*◌, ◌<◌, ◌≤◌, length, get_or, leb};
 ghost use Rattle.std.specs.Float.{binary64};
 ghost use Rattle.std.specs.Float.Ieee.{of_bits};

@@ -1,4 +1,6 @@
 // The options of a run: one set of numbers, handed in by copy. Their floats may be any bits; the counts are checked where a run begins.
+#![tactic(auto)]
+
 #[repr(C)]
 #[derive(Clone, Copy)]
 pub struct Options {

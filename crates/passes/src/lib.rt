@@ -1,5 +1,7 @@
 // The run of a budget over lent buffers: the machine of passes at the real stamping and solving. It reads from the whole to its parts: a run lists its diodes, takes a matrix to
 // hold what is stamped before them, and makes pass after pass; a pass is an attempt (attempt.rt), the currents that inductors take (take) and what follows it (follow).
+#![tactic(auto)]
+
 mod attempt;
 
 ghost use Rattle.std.specs.Prelude.{◌≡◌, length};

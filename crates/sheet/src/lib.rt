@@ -1,5 +1,7 @@
 // The element sheet: eleven kinds of record, the reader that turns a record into an element, and the check of a whole sheet.
 // Every public function is total: a byte past the end of a sheet reads as 0, and a sheet of any length is checked as far as its whole records go.
+#![tactic(auto)]
+
 mod kinds;
 mod range;
 mod record;

@@ -1,6 +1,8 @@
 // One DC job by itself, on a vector, a system and a memory that begin as zeros. What is written down for it, and what stands in its buffers afterwards, is `marked_run` in
 // specs/Single.antt, for all input; of that, mark, vector and system are `alone`, whatever stood in the buffers. Whoever runs jobs above the engine comes here: specs/Laws/Promises.antt
 // says all that such a caller needs to know of the engine.
+#![tactic(auto)]
+
 ghost use Rattle.std.specs.Prelude.{◌≡◌, []};
 ghost use Rattle.machine.specs.State.{buffers_of};
 ghost use Rattle.engine.specs.Engine.{Scratched};

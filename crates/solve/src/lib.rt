@@ -1,5 +1,7 @@
 // Solves a system of linear equations, N rows by N + 1 columns in one lent buffer, by Gaussian elimination with partial pivoting and back substitution, bit for bit as the Rust does.
 // The meaning of each function stands under its own name in specs/Solve.antt; the engine's passes come here.
+#![tactic(auto)]
+
 ghost use Rattle.std.specs.Prelude.{◌≡◌, ◌+◌, ◌*◌, ◌≤◌, ◌<◌, length};
 ghost use Rattle.numbers.specs.Limits.{most_unknowns};
 ghost use Rattle.solve.specs.Solve.{solved_as, solve_of, solve_refusal, next_abs, eliminated, solution};

@@ -1,6 +1,8 @@
 // All spreads in one call, and which of their runs are sound: settled, with no diode behind and, where tolerances are handed in, accepted by the judge on the system that the run left. Each job
 // is run once. The jobs, the scratch and the report over the settled ones are those of `spreads`; beside them stand a cause for each job that is not sound, and a report over the sound ones.
 // What is answered and left is `sound_of` in specs/Sound.antt, for all input.
+#![tactic(auto)]
+
 pub mod causes; // causes.rt: a job's cause, and its numbers
 pub mod refusals; // refusals.rt: 13, then 1 to 5 for the whole call
 mod reports; // reports.rt: over the settled jobs, and over the sound ones

@@ -1,6 +1,8 @@
 // All spreads in one call: up to 256 DC jobs with the same counts, options, points and budget, their sheets end to end, and a report over them. Each job is what it is by itself,
 // with fresh memory; the report counts the jobs by their numbers and follows one chosen unknown over the settled ones. What is answered and left is `spreads_of` in
 // specs/Spreads.antt, for all input.
+#![tactic(auto)]
+
 pub mod refusals; // refusals.rt: 13, then 1 to 5 for the whole call
 mod runs; // runs.rt: the jobs, one after the other
 

@@ -1,5 +1,7 @@
 // Stamps: each function writes the entries that its definition lists, in that order, into a system of n rows of n + 1 floats.
 // Nodes and a source's row are plain row numbers; nothing here knows an element. Ground's entries, and what lies outside the system, are not written.
+#![tactic(auto)]
+
 ghost use Rattle.std.specs.Prelude.{◌≡◌};
 ghost use Rattle.stamps.specs.Write.{adds, puts, lands as landing, spot_of, written, stamped};
 ghost use Rattle.stamps.specs.Kinds.{current_writes, conductance_writes, resistor_writes, voltage_writes, vcvs_writes, vccs_writes, capacitor_writes, diode_writes, inductor_writes};

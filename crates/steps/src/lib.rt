@@ -1,5 +1,7 @@
 // The control of a run, on its counters alone: what the report of a pass makes of them, in DC (the Rust's `dc_solve`) and in a transient
 // (`transient_analysis`). No buffer is seen here. Every function is total: a count that stands at the top of its type stays there.
+#![tactic(auto)]
+
 ghost use Rattle.std.specs.Prelude.{◌≡◌};
 ghost use Rattle.steps.specs.Counters.{next as next_of, started as startedOf, counted as countedOf, ended as ended_of, anew as anewOf, written as written_of, going as goingOf, verdict_of, dc_verdict_of};
 ghost use Rattle.steps.specs.Control.{report_of, failed as failedOf, dc_over, dc_after, moved as movedOf, doubled as doubledOf, eased as easedOf, shortened as shortenedOf, step_after, row_due};

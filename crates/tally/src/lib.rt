@@ -1,4 +1,6 @@
 // The report over the jobs' numbers and vectors: how many have each number, and over the settled ones the exact sum, the smallest and the largest of the chosen unknown.
+#![tactic(auto)]
+
 ghost use Rattle.std.specs.Prelude.{◌≡◌, true, cond, not, ◌&&◌, ◌||◌, ◌++◌, ◌+◌, ◌-◌, ◌^◌, ◌≤◌, ◌<◌, eqb, length, drop};
 ghost use Rattle.std.specs.Float.Ieee.Scale.{finite};
 ghost use Rattle.numbers.specs.Limits.{most_jobs, sum_limbs};

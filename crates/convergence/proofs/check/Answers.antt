@@ -1,0 +1,17 @@
+use Rattle.loops.specs.Loop.{turns}
+use Rattle.loops.specs.Laws.Loop.{more, done}
+use Rattle.convergence.specs.Convergence.{place_at, checked}
+use Rattle.convergence.specs.declared.Convergence.TheVariants.{Yes}
+use lib.ListN.{length}
+use native.Mathlib.Omega.{arith}
+use mathlib.Core.Path.{◌≡◌, refl, sym, ◌∙◌}
+use Prim.Native.Nat.{ℕ, ◌≤◌, ◌<◌, ◌+◌, ◌-◌}
+use borrow.Author.Rules.{rules}
+use Rattle.convergence.proofs.check.Goals as goal
+
+pub loop-i-preserved : goal.loop-i-preserved
+loop-i-preserved c = (omega arith, c.place-r.ensures ∙ more _ _ _ c.loop-i.i c.loop-i.invariant.1)
+
+pub returns : goal.returns
+unfolding checked
+returns c = done _ _ _ c.loop-i.i _ c.loop-i.invariant.0 c.loop-i-test.false c.loop-i.invariant.1

@@ -1,0 +1,12 @@
+use Rattle.convergence.specs.Convergence.{convergence_of}
+use borrow.Author.Tests.{lt-ltb, le-ltb}
+use borrow.Author.Rules.{rules}
+use Rattle.convergence.proofs.convergence_check.Goals as goal
+
+pub returns-then-y-x : goal.returns-then-y-x
+unfolding convergence_of
+returns-then-y-x c = rw (lt-ltb _ _ c.if-y-x.true)
+
+pub returns : goal.returns
+unfolding convergence_of
+returns c = rw (le-ltb _ _ c.if-y-x.false) c.check.ensures

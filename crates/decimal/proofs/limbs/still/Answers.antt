@@ -1,0 +1,13 @@
+-- src/limbs.rt:79:1
+use borrow.Author.Rules.{rules}
+use borrow.Author.Tests.{ne_eqb}
+use Rattle.decimal.proofs.limbs.still.Reads as reads
+use Rattle.decimal.proofs.limbs.still.Lts as lts
+use Rattle.decimal.proofs.limbs.still.Goals as goal
+
+pub returns-then-left-eq0 : goal.returns-then-left-eq0
+returns-then-left-eq0 c = rw c.if-left-eq0.true
+
+-- src/limbs.rt:79:1
+pub returns-else-left-eq0 : goal.returns-else-left-eq0
+returns-else-left-eq0 c = rw (ne_eqb _ _ c.if-left-eq0.false)

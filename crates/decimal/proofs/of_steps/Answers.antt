@@ -1,0 +1,33 @@
+-- src/lib.rt:66:32
+use borrow.Author.Rules.{rules}
+use mathlib.Core.Path.{sym, ap, subst, ◌∙◌}
+use Prim.Native.Nat.{◌^◌, ◌<◌}
+use native.Mathlib.Omega.{arith}
+use Rattle.decimal.specs.declared.shortest.Span.{Span}
+use Rattle.decimal.specs.declared.shortest.Number.{Number}
+use Rattle.decimal.specs.Shortest.{number_of}
+use Rattle.decimal.specs.Decimal.{signed}
+use Rattle.decimal.proofs.Digits.{span_few}
+use Rattle.decimal.proofs.of_steps.Reads as reads
+use Rattle.decimal.proofs.of_steps.Lts as lts
+use Rattle.decimal.proofs.scale.place_of.Reads as place-of-reads
+use Rattle.decimal.proofs.shortest.shortest.Reads as shortest-reads
+use Rattle.decimal.proofs.shortest.span_of.Reads as span-of-reads
+use Rattle.decimal.proofs.of_steps.Goals as goal
+
+pub span_of-requires : goal.span_of-requires
+span_of-requires c = search rules
+
+-- src/lib.rt:66:65
+pub place_of-requires : goal.place_of-requires
+place_of-requires c = search rules
+
+-- src/lib.rt:66:9
+pub shortest-n-requires : goal.shortest-n-requires
+shortest-n-requires c =
+    (record { few = subst (λ (z : Span). z.whole < 2 ^ 63) (sym c.span_of.ensures) (span_few c.args.b c.args.m c.args.narrow c.requires.0 c.requires.1 (omega arith)) }, omega arith)
+
+-- src/lib.rt:62:1
+pub returns : goal.returns
+returns c =
+    ap (λ (n : Number). signed c.args.minus n) (c.shortest-n.ensures ∙ (λ i. number_of (c.span_of.ensures i) (c.place_of.ensures i) 18))

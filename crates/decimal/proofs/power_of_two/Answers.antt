@@ -1,0 +1,13 @@
+-- src/lib.rt:75:1
+use borrow.Author.Rules.{rules}
+use borrow.Author.Tests.{eq-eqb, ne_eqb}
+use Rattle.decimal.proofs.power_of_two.Reads as reads
+use Rattle.decimal.proofs.power_of_two.Lts as lts
+use Rattle.decimal.proofs.power_of_two.Goals as goal
+
+pub returns-then-low-eq0 : goal.returns-then-low-eq0
+returns-then-low-eq0 c = rw (eq-eqb _ _ c.if-low-eq0.true)
+
+-- src/lib.rt:75:1
+pub returns-else-low-eq0 : goal.returns-else-low-eq0
+returns-else-low-eq0 c = rw (ne_eqb _ _ c.if-low-eq0.false)

@@ -1,0 +1,14 @@
+use Prim.Native.Nat.{◌≤◌, ◌-◌}
+use mathlib.Core.Path.{◌≡◌, ap, ◌∙◌}
+use native.Mathlib.Omega.{arith}
+use lib.ListN.{length}
+use Rattle.loops.specs.Loop.{turns}
+use Rattle.loops.specs.Laws.Loop.{more, done}
+use Rattle.engine.specs.Begin.{forgotten, forget_at}
+use borrow.Author.Rules.{rules}
+use Rattle.engine.proofs.begin.forget.Given as goal
+
+abbrev pub invariant-loop-i : goal.invariant-loop-i
+invariant-loop-i l = (l.i ≤ length l.initial.memory) × (length l.memory ≡ length l.initial.memory) × (l.memory ≡ turns l.i (forget_at l.sheet) l.initial.memory)
+
+--MEASURE measure-loop-i length l.initial.memory - l.i

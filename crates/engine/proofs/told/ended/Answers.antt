@@ -1,0 +1,7 @@
+use Rattle.engine.specs.Engine.{ending_of}
+use borrow.Author.Rules.{rules}
+use Rattle.engine.proofs.told.ended.Goals as goal
+
+pub returns : goal.returns
+unfolding ending_of
+returns c = rw (c.dc_verdict_of.ensures, c.verdict_of.ensures)

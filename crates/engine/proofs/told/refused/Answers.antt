@@ -1,0 +1,7 @@
+use Rattle.engine.specs.Engine.{refused_of}
+use borrow.Author.Rules.{rules}
+use Rattle.engine.proofs.told.refused.Goals as goal
+
+pub returns : goal.returns
+unfolding refused_of
+returns c = rw (c.place.ensures, c.number.ensures)

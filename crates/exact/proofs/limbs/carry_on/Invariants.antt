@@ -1,0 +1,9 @@
+use Rattle.std.proofs.Common.{◌≡◌, ℕ, ◌+◌, ◌-◌, ◌*◌, ◌^◌, ◌<◌, length, sym, ap, ◌∙◌, subst, zero-add, zero-mul, arith, rules}
+use Rattle.exact.specs.Limbs.{value}
+use Rattle.exact.proofs.Carry.{inside}
+use Rattle.exact.proofs.limbs.carry_on.Given as goal
+
+abbrev pub invariant-loop-left : goal.invariant-loop-left
+invariant-loop-left l = (length l.limbs ≡ length l.initial.limbs) × (value l.limbs + l.left * 2 ^ (64 * l.i) ≡ value l.initial.limbs + l.carry * 2 ^ (64 * l.from)) × (l.left < 2 ^ 64)
+
+--MEASURE measure-loop-left length l.initial.limbs - l.i

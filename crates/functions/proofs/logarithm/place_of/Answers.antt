@@ -1,0 +1,5 @@
+use Rattle.std.proofs.Common.{rules}
+use Rattle.functions.proofs.logarithm.place_of.Goals as goal
+
+pub returns-then-h : goal.returns-then-h
+returns-then-h c = rw c.if-h.true

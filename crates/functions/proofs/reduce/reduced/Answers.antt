@@ -1,0 +1,38 @@
+-- `functions::reduce::reduced` meets its contract. Assumes nothing.
+-- below 1/4
+use Rattle.std.proofs.Common.{◌≡◌, ℕ, ◌+◌, ◌-◌, ◌*◌, ◌^◌, ◌<◌, ◌≤◌, sym, ap, ◌∙◌, lt_of_lt_of_le, add_comm, arith, pow_mono, w64, Fits, rules}
+use Rattle.functions.specs.Words.{size_of}
+use Rattle.functions.specs.Laws.Fields.{with_field}
+use Rattle.functions.proofs.Quotients.{lower, higher, multiple, own, quarter}
+use Rattle.functions.proofs.reduce.reduced.Goals as goal
+
+-- the size of the float in units of 2 ^ -62, divided
+quotient : (c : goal.After-divided-p) (n d : ℕ) → n * 2 ^ 1074 ≡ size_of c.args.field c.args.digits * d
+    → n * 2 ^ 62 ≡ (c.divided-p.result.k * c.args.m + c.divided-p.result.left) * d
+quotient c n d e =
+    let x = c.args.field in
+    let t = c.args.digits in
+    let far : 1021 ≤ x = omega arith in
+    multiple n d (t + 2 ^ 52) x far (e ∙ ap (λ (a : ℕ). a * d) (with_field x t (omega arith) ∙ ap (λ (a : ℕ). a * 2 ^ (x - 1)) (add_comm (2 ^ 52) t))) ∙ ap (λ (a : ℕ). a * d) c.divided-p.ensures.0
+
+pub returns-then-field-lt1021 : goal.returns-then-field-lt1021
+returns-then-field-lt1021 c = λ n d dp e.
+    own c.args.m n d c.requires.0 (quarter n d c.args.field c.args.digits dp c.if-field-lt1021.true c.requires.3 e) _ _ _ c.small.ensures.1 (c.small.ensures.0 n d dp e) c.small.ensures.2
+
+pub overflow_add-result : goal.overflow_add-result
+overflow_add-result c =
+    let x = c.args.field in
+    one c.divided-p.result.k (lt_of_lt_of_le c.divided-p.ensures.2 (pow_mono {i = x - 1021} {j = 22} (omega arith)))
+  where
+    one : (k : ℕ) → k < 2 ^ 22 → Fits w64 (k + 1)
+    one k h = omega arith
+
+pub returns-then-p-m : goal.returns-then-p-m
+returns-then-p-m c = λ n d dp e.
+    let at = c.before.before.before in
+    lower at.args.m at.divided-p.result.k at.divided-p.result.left n d dp at.divided-p.ensures.1 (quotient at n d e) c.if-p-m.true
+
+pub returns-else-p-m : goal.returns-else-p-m
+returns-else-p-m c = λ n d dp e.
+    let at = c.before.before.before.before in
+    higher at.args.m at.divided-p.result.k at.divided-p.result.left n d dp at.divided-p.ensures.1 (quotient at n d e) c.if-p-m.false

@@ -1,0 +1,46 @@
+-- `groups::diodes::list_diodes` meets its contract: the invariant says that the diodes among the records passed are at the front. Assumes nothing.
+use Prim.Native.Nat.{◌-◌, ◌≤◌}
+use mathlib.Core.Path.{◌≡◌, refl, sym, ◌∙◌}
+use mathlib.Core.Logic.{⊎_elim}
+use native.Mathlib.Nat.{le_antisymm}
+use native.Mathlib.Omega.{arith}
+use lib.ListN.{length, length-set}
+use Rattle.groups.specs.Listed.{Places, places_of, diodes_among, fronted, diode_places}
+use Rattle.groups.specs.Laws.Listed.{walk_found, walk_passed}
+use borrow.Author.Rules.{rules}
+use Rattle.groups.proofs.diodes.list_diodes.Goals as goal
+
+pub loop-i-init : goal.loop-i-init
+unfolding diodes_among
+loop-i-init c = (omega arith, omega arith, omega arith, omega arith, refl, refl)
+
+pub loop-i-preserved : goal.loop-i-preserved
+loop-i-preserved c =
+    let l = c.loop-i in
+    let sheet = c.args.sheet.now in
+    let test = c.diode_in.ensures in
+    let list = c.args.places.now in
+    ⊎_elim
+    (λ u. (
+      omega arith,
+      rw u.2 (omega arith),
+      l.invariant.2,
+      l.invariant.3,
+      rw u.1 (simp length-set l.invariant.4),
+      rw (u.2, u.1) (walk_found sheet list l.i l.found l.places l.invariant.5 (sym test ∙ u.0.true) (omega arith)),
+    ))
+    (λ u. (
+      omega arith,
+      rw u.2 (omega arith),
+      l.invariant.2,
+      l.invariant.3,
+      rw u.1 l.invariant.4,
+      rw (u.2, u.1) (walk_passed sheet list l.i l.found l.places l.invariant.5 (sym test ∙ u.0.left)),
+    ))
+    c.if-diode_in.branch
+
+pub returns : goal.returns
+unfolding diode_places
+returns c =
+    let l = c.loop-i in
+    rw (← c.records.ensures, ← c.walked-count.ensures, le_antisymm c.loop-i-test.false l.invariant.0) l.invariant.5

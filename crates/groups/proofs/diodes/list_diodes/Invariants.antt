@@ -1,0 +1,15 @@
+use Prim.Native.Nat.{◌-◌, ◌≤◌}
+use mathlib.Core.Path.{◌≡◌, refl, sym, ◌∙◌}
+use mathlib.Core.Logic.{⊎_elim}
+use native.Mathlib.Nat.{le_antisymm}
+use native.Mathlib.Omega.{arith}
+use lib.ListN.{length, length-set}
+use Rattle.groups.specs.Listed.{Places, places_of, diodes_among, fronted, diode_places}
+use Rattle.groups.specs.Laws.Listed.{walk_found, walk_passed}
+use borrow.Author.Rules.{rules}
+use Rattle.groups.proofs.diodes.list_diodes.Given as goal
+
+abbrev pub invariant-loop-i : goal.invariant-loop-i
+invariant-loop-i l = (l.i ≤ l.count) × (l.found ≤ l.i) × (l.count ≤ 256) × (l.count ≤ length l.initial.places) × (length l.places ≡ length l.initial.places) × (◌≡◌ {A = Places} (places_of l.found l.places) (fronted (diodes_among l.sheet l.i) l.initial.places))
+
+--MEASURE measure-loop-i l.count - l.i

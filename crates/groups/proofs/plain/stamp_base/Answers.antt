@@ -1,0 +1,25 @@
+-- `groups::plain::stamp_base` meets its contract: the records passed have written their lists. Assumes nothing.
+use borrow.Author.Rules.{rules}
+use Prim.Native.Nat.{◌-◌}
+use Rattle.numbers.specs.Kinds.{resistor, voltage}
+use Rattle.groups.specs.Plain.{base_writes, based_on}
+use Rattle.groups.specs.Laws.Quiet.{quiet_base}
+use Rattle.groups.proofs.Walk.{Walking, at_first, one_more_in, at_last}
+use Rattle.groups.proofs.plain.stamp_base.Goals as goal
+
+pub loop-i-init : goal.loop-i-init
+loop-i-init c = at_first _ _ _ _ _
+
+pub loop-i-preserved : goal.loop-i-preserved
+loop-i-preserved c =
+    let a = c.args in
+    let l = c.loop-i in
+    let f = base_writes a.nodes a.n in
+    one_more_in f resistor voltage a.n a.sheet.now a.m.now (quiet_base a.nodes a.n) _ l.i _ _ _
+    c.loop-i-test.true l.invariant c.record_in.ensures c.base_one.ensures
+
+pub returns : goal.returns
+unfolding based_on
+returns c =
+    let a = c.args in
+    at_last (λ _. base_writes a.nodes a.n) a.n a.sheet.now a.m.now _ _ _ c.records-count.ensures c.loop-i-test.false c.loop-i.invariant

@@ -1,0 +1,8 @@
+-- `groups::stamp_base` meets its contract: zeros first, then the group. Assumes nothing.
+use borrow.Author.Rules.{rules}
+use Rattle.groups.specs.Stamping.{base_of}
+use Rattle.groups.proofs.stamp_base.Goals as goal
+
+pub returns : goal.returns
+unfolding base_of
+returns c = rw (← c.fill.ensures) c.stamp_base.ensures

@@ -1,0 +1,44 @@
+-- `judge::add_row` meets its contract. The invariant: the rows keep the sum of the first j products.
+use borrow.Author.Rules.{rules}
+use mathlib.Core.Path.{◌≡◌, sym, ◌∙◌, subst}
+use mathlib.Core.Bool.{false}
+use Prim.Native.Nat.{ℕ, ◌+◌, ◌-◌, ◌*◌, ◌≤◌}
+use native.Mathlib.Omega.{arith}
+use lib.Ieee.{nan}
+use denote.Floats.{passes}
+use Rattle.exact.specs.Exact.{Exact}
+use Rattle.exact.specs.Sums.{Sums}
+use Rattle.exact.specs.Laws.Sums.{row_length, one_more_lem}
+use Rattle.judge.specs.Judge.{allowed, total}
+use Rattle.judge.proofs.Every.{front_at}
+use Rattle.judge.proofs.Places.{more, nothing}
+use Rattle.judge.proofs.add_row.Goals as goal
+
+pub loop-j-init : goal.loop-j-init
+loop-j-init c =
+    (search rules, subst (λ (e : Exact). Sums 0 e c.args.plus.now c.args.minus.now) (nothing c.args.m.now c.args.x.now c.args.from) c.requires.2)
+
+pub loop-j-preserved : goal.loop-j-preserved
+loop-j-preserved c =
+    let l = c.loop-j in
+    let m = c.args.m.now in
+    let x = c.args.x.now in
+    let r = c.requires.0 in (
+      search rules,
+      rw (more m x c.args.from l.j) at (one_more_lem l.j (total m x c.args.from l.j) l.plus l.minus l.invariant.1 _ _ _ _ _ (omega arith)
+          (c.shared_slice_known-in-loop-j-1.given (c.args.from + l.j), passes _ (front_at (allowed false) nan m (c.args.n * (c.args.n + 1)) (c.args.from + l.j) r.finite_system r.system (omega arith)))
+          (c.shared_slice_known-in-loop-j-2-1.given l.j, passes _ (front_at (allowed false) nan x c.args.n l.j r.finite_vector r.vector (omega arith)))
+          c.keep_product.ensures),
+    )
+
+pub shape_of-plus : goal.shape_of-plus
+shape_of-plus c = row_length _ _ c.loop-j.invariant.1.plus_row ∙ sym (row_length _ _ c.requires.2.plus_row)
+
+pub shape_of-minus : goal.shape_of-minus
+shape_of-minus c = row_length _ _ c.loop-j.invariant.1.minus_row ∙ sym (row_length _ _ c.requires.2.minus_row)
+
+pub returns : goal.returns
+returns c =
+    let l = c.loop-j in
+    let e : l.j ≡ c.args.n = omega arith in
+    subst (λ (k : ℕ). Sums k (total c.args.m.now c.args.x.now c.args.from k) l.plus l.minus) e l.invariant.1

@@ -1,0 +1,8 @@
+use borrow.Author.Rules.{rules}
+use Rattle.loops.proofs.clear_if.Goals as goal
+
+pub returns-then-yes : goal.returns-then-yes
+returns-then-yes c = rw c.if-yes.true c.fill.ensures
+
+pub returns : goal.returns
+returns c = rw c.if-yes.false

@@ -1,0 +1,13 @@
+use Prim.Native.Nat.{◌≤◌, ◌-◌}
+use mathlib.Core.Path.{◌≡◌, refl, ◌∙◌}
+use mathlib.Core.List.{◌++◌}
+use native.Mathlib.Omega.{arith}
+use borrow.Author.Rules.{rules}
+use lib.ListN.{length, replicate, drop}
+use Rattle.loops.specs.Laws.Loop.{fill_more, fill_done}
+use Rattle.loops.proofs.fill.Given as goal
+
+abbrev pub invariant-loop-i : goal.invariant-loop-i
+invariant-loop-i l = (l.i ≤ l.i-end) × (l.i-end ≡ length l.initial.x) × (length l.x ≡ length l.initial.x) × (l.x ≡ replicate l.i l.v ++ drop l.i l.initial.x)
+
+--MEASURE measure-loop-i l.i-end - l.i

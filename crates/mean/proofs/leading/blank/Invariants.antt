@@ -1,0 +1,9 @@
+use Rattle.std.proofs.Common.{◌≡◌, ◌-◌, ◌≤◌, Bool, ◌&&◌, eqb, get_or, take, sym, refl, ap, ◌∙◌, arith, rules}
+use Rattle.exact.specs.Limbs.{value}
+use Rattle.mean.proofs.Places.{blank_more}
+use Rattle.mean.proofs.leading.blank.Given as goal
+
+abbrev pub invariant-loop-i : goal.invariant-loop-i
+invariant-loop-i l = (l.i ≤ l.n) × (l.clear ≡ eqb (value (take l.i l.l)) 0)
+
+--MEASURE measure-loop-i l.n - l.i

@@ -1,0 +1,10 @@
+use Rattle.std.proofs.Common.{◌≡◌, ℕ, ◌+◌, ◌-◌, ◌*◌, ◌^◌, ◌<◌, ◌≤◌, List, get_or, drop, ap, ◌∙◌, inl, inr, arith, rules}
+use Rattle.exact.specs.Limbs.{value}
+use Rattle.exact.proofs.Order.{none_past}
+use Rattle.mean.proofs.Turns.{value-drop}
+use Rattle.mean.proofs.leading.top.Given as goal
+
+abbrev pub invariant-loop-h : goal.invariant-loop-h
+invariant-loop-h l = (17 ≤ l.h) × (l.h ≤ 65) × (value (drop (l.h + 1) l.l) ≡ 0)
+
+--MEASURE measure-loop-h l.h

@@ -1,0 +1,18 @@
+-- `mean::limbs::difference` meets its contract.
+use Rattle.std.proofs.Common.{◌-◌, ◌≤◌, length, ap, ◌∙◌, arith, rules}
+use Rattle.exact.specs.Laws.Limbs.{length_limbs}
+use Rattle.mean.proofs.Turns.{Lessened, lessened_start, lessened_more, lessened_end}
+use Rattle.mean.proofs.limbs.difference.Goals as goal
+
+pub loop-i-init : goal.loop-i-init
+loop-i-init c = (search rules, lessened_start _ _ _ (ap length c.empty-r.ensures ∙ length_limbs 66 0))
+
+pub loop-i-preserved : goal.loop-i-preserved
+loop-i-preserved c =
+    let l = c.loop-i in
+    (search rules, lessened_more _ _ l.r l.borrow l.i _ _ (omega arith) (omega arith) c.less-t.ensures.0 c.less-t.ensures.1 l.invariant.1)
+
+pub returns : goal.returns
+returns c =
+    let l = c.loop-i in
+    record { limbs = l.invariant.1.limbs; is = lessened_end _ _ l.r l.borrow l.i (omega arith) c.requires.0 c.requires.1 c.requires.2 l.invariant.1 }

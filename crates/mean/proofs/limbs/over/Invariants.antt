@@ -1,0 +1,8 @@
+use Rattle.std.proofs.Common.{◌≡◌, ◌-◌, ◌≤◌, length, arith, rules}
+use Rattle.mean.proofs.Turns.{Lowered, lowered_start, lowered_turn, lowered_end}
+use Rattle.mean.proofs.limbs.over.Given as goal
+
+abbrev pub invariant-loop-i : goal.invariant-loop-i
+invariant-loop-i l = (l.i ≤ length l.initial.l) × Lowered l.initial.l l.d l.i l.left l.l
+
+--MEASURE measure-loop-i l.i

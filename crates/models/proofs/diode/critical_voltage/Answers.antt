@@ -1,0 +1,7 @@
+use borrow.Author.Rules.{rules}
+use Rattle.models.specs.Diode.{critical}
+use Rattle.models.proofs.diode.critical_voltage.Goals as goal
+
+pub returns : goal.returns
+unfolding critical
+returns c = rw c.ln.ensures

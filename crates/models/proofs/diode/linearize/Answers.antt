@@ -1,0 +1,7 @@
+use borrow.Author.Rules.{rules}
+use Rattle.models.specs.Diode.{linearized}
+use Rattle.models.proofs.diode.linearize.Goals as goal
+
+pub returns : goal.returns
+unfolding linearized
+returns c = rw (← c.thermal_voltage.ensures) c.linearize_at.ensures

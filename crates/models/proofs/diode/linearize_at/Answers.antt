@@ -1,0 +1,6 @@
+use borrow.Author.Rules.{rules}
+use Rattle.models.specs.Laws.Situations.{limited_chosen}
+use Rattle.models.proofs.diode.linearize_at.Goals as goal
+
+pub returns : goal.returns
+returns c = rw (limited_chosen _ _ _ _, ← c.situation_of-s.ensures, ← c.limited_in-v_d_i.ensures) c.model_at.ensures

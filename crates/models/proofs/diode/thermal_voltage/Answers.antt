@@ -1,0 +1,7 @@
+use mathlib.Core.Path.{refl}
+use Rattle.models.specs.Diode.{thermal}
+use Rattle.models.proofs.diode.thermal_voltage.Goals as goal
+
+pub returns : goal.returns
+unfolding thermal
+returns c = refl

@@ -1,0 +1,11 @@
+use borrow.Author.Rules.{rules}
+use Rattle.models.specs.Sine.{sine_at, level_of}
+use Rattle.models.proofs.sine.evaluate.Goals as goal
+
+pub returns-in-Value : goal.returns-in-Value
+unfolding sine_at level_of
+returns-in-Value c = rw (← c.sin-s.ensures, c.s-1.given.1)
+
+pub returns-in-Refused : goal.returns-in-Refused
+unfolding sine_at level_of
+returns-in-Refused c = rw (← c.sin-s.ensures, c.enum_told-1.given.1)

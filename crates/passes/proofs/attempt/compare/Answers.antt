@@ -1,0 +1,6 @@
+-- `passes::attempt::compare` meets its contract: from its two calls. Assumes nothing.
+use borrow.Author.Rules.{rules}
+use Rattle.passes.proofs.attempt.compare.Goals as goal
+
+pub returns : goal.returns
+returns c = rw (← c.convergence_check.ensures) c.report_of.ensures

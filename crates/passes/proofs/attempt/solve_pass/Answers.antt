@@ -1,0 +1,73 @@
+-- `passes::attempt::solve_pass` meets its contract: the pass before again, or a pass of its own. Assumes nothing.
+use Prim.Native.Nat.{ℕ}
+use mathlib.Core.Path.{◌≡◌, refl, sym, ap, ◌∙◌}
+use mathlib.Core.Bool.{Bool, true, false, cond, ◌&&◌, false≢true, and-eq-true_iff as both}
+use mathlib.Core.List.{List}
+use lib.Dec.{eqb}
+use lib.ListN.{length}
+use lib.Ieee.{Float}
+use Rattle.groups.specs.Sources.{driven_of}
+use Rattle.steps.specs.declared.Report.{Report}
+use Rattle.steps.specs.declared.Report.TheVariants.{Diode, Sine}
+use Rattle.numbers.specs.Verdicts.{diode_current}
+use Rattle.steps.specs.Control.{solved}
+use Rattle.machine.specs.State.{tried_of}
+use Rattle.passes.specs.Again.{failure_of, bare, Holder}
+use Rattle.passes.proofs.Joins.{whole_code, unstamped, stamped_first, repeated, leaves}
+use borrow.Author.Rules.{rules}
+use Rattle.passes.proofs.attempt.solve_pass.Goals as goal
+
+unsolved : (k : ℕ) (r : Report) → r ≡ failure_of k → solved r ≡ true → ⊥
+unfolding failure_of
+unsolved k r e s = go (eqb k diode_current) (ap solved (sym e) ∙ s)
+  where
+    go : (b : Bool) → solved (cond b Diode Sine) ≡ true → ⊥
+    go true h = false≢true h
+    go false h = false≢true h
+
+-- a matrix that is as long holds as much
+held-as : (sheet places : List ℕ) (base held held₀ : ℕ) → held ≡ held₀ → Holder sheet places base held₀ → Holder sheet places base held
+held-as sheet places base held held₀ e h = rw e h
+
+-- the first of two, where not both hold and the second does
+alone : (a b : Bool) → (a && b) ≡ false → b ≡ true → a ≡ false
+alone true b e h = absurd (false≢true (sym e ∙ h))
+alone false b e h = refl
+
+pub returns-then-held-again : goal.returns-then-held-again
+returns-then-held-again c =
+    let u = c.requires.1 in
+    let b = (both (bare (length c.args.held.now)) _).0 c.if-held-again.true in
+    let h = u.holds b.1 in
+    (rw c.compare.ensures (repeated _ _ _ _ _ _ _ _ _ u.holder b.0 (h.whole b.0).0 (h.whole b.0).1 (u.later b.1)), λ _. h)
+
+pub stamp_first-k-requires : goal.stamp_first-k-requires
+stamp_first-k-requires c =
+    let z = c.requires in (
+      z.0.works ∙ sym z.0.bases,
+      λ a.
+          let d = alone _ _ c.if-held-again.false a in
+          (z.1.holder.long d, rw c.pass_of-p.ensures ((z.1.holds a).part d)),
+    )
+
+pub returns-then-k-ne0 : goal.returns-then-k-ne0
+returns-then-k-ne0 c =
+    let t = c.stamp_first-k in
+    (rw c.failure.ensures (unstamped _ _ _ _ _ _ _ _ _ (rw c.pass_of-p.ensures at t.ensures.0) c.if-k-ne0.true), λ s. absurd (unsolved _ _ c.failure.ensures s))
+
+pub finish-requires : goal.finish-requires
+finish-requires c =
+    let z = c.requires in
+    let l = c.stamp_first-k.auto.1.1.1.1.1.1.1.1.0 ∙ z.0.works in
+    ((record { some = z.0.some; small = z.0.small; cells = l }, z.0.systems ∙ sym l), z.1.holder.listed)
+
+pub returns : goal.returns
+returns c =
+    let u = c.requires.1 in
+    let t = c.stamp_first-k in
+    let a = c.args in
+    let k = c.if-k-ne0.false in
+    let e = whole_code _ _ _ k (rw c.pass_of-p.ensures at t.ensures.0) in
+    let f = c.finish.ensures in
+    let lh = t.auto.1.1.1.1.1.1.1.0 in
+    (f ∙ stamped_first _ _ _ _ _ _ _ _ e refl, λ _. leaves _ _ _ _ a.system.now a.vector.now a.memory.now _ _ _ _ _ _ _ (held-as _ _ _ _ _ lh u.holder) refl e (λ h. t.ensures.1 (u.holder.long (ap bare (sym lh) ∙ h)) k) f)

@@ -1,0 +1,75 @@
+-- `passes::run` meets its contract: where the lengths fit, with diodes or without, and where they do not. Assumes nothing.
+-- the list is as long after it was written as before
+use Prim.Native.Nat.{ℕ, ◌≤◌}
+use mathlib.Core.Path.{◌≡◌, refl, sym, ◌∙◌}
+use mathlib.Core.Bool.{Bool, true, false, ◌&&◌, false≢true, and-eq-true_iff as both}
+use borrow.Author.Tests.{eqb-true, leb-true, not-true, not-false}
+use lib.Dec.{eqb, leb}
+use lib.Seq.{length-take-le}
+use native.Mathlib.Omega.{arith}
+use Rattle.groups.specs.Laws.Listed.{list_bounded, list_lists, listed_front}
+use Rattle.passes.specs.Laws.Sized.{sized}
+use Rattle.passes.specs.Run.{run_on}
+use borrow.Author.Rules.{rules}
+use Rattle.passes.proofs.run.Goals as goal
+
+within : (n n₀ d : ℕ) → d ≤ n₀ → n ≡ n₀ → d ≤ n
+within n n₀ d h e = rw e h
+
+roomy : (n : ℕ) → n ≡ 256 → 256 ≤ n
+roomy n e = omega arith
+
+-- no diode, and every record was looked at
+free : (l d r n : ℕ) → l ≡ d → r ≡ n → (eqb d 0 && leb r 256) ≡ true → (l ≡ 0) × (n ≤ 256)
+free l d r n e q t =
+    let b = (both (eqb d 0) (leb r 256)).0 t in
+    (e ∙ eqb-true d 0 b.0, rw (← q) (leb-true r 256 b.1))
+
+-- where the lengths fit, nothing is said of the elimination matrix
+unfit : {b : Bool} {T : Type 0} → b ≡ true → b ≡ false → T
+unfit f e = absurd (false≢true (sym e ∙ f))
+
+pub returns-then-not-fits : goal.returns-then-not-fits
+unfolding run_on
+returns-then-not-fits c = (rw (sym c.fits2.ensures ∙ not-true _ c.if-not-fits.true), record { kept = λ e. refl })
+
+pub slice_bounds-list-end : goal.slice_bounds-list-end
+slice_bounds-list-end c = let l = c.list_diodes-d in within _ _ _ (list_bounded _ _ _ _ l.ensures) l.auto.1.0
+
+pub slice_bounds-run_passes-end : goal.slice_bounds-run_passes-end
+slice_bounds-run_passes-end c = let l = c.list_diodes-d in sym (length-take-le _ _ (within _ _ _ (list_bounded _ _ _ _ l.ensures) l.auto.1.0))
+
+pub run_passes-requires : goal.run_passes-requires
+run_passes-requires c =
+    let l = c.list_diodes-d in
+    let w = within _ _ _ (list_bounded _ _ _ _ l.ensures) l.auto.1.0 in (
+      sized _ _ _ _ _ (sym c.fits2.ensures ∙ not-false _ c.if-not-fits.false),
+      record {
+        listed = listed_front _ _ _ w (list_lists _ _ _ _ l.ensures (roomy _ c.bytes-list.ensures));
+        none = λ _. free _ _ _ _ (length-take-le _ _ w) c.records.ensures c.if-d-records.true;
+        long = λ h. absurd (false≢true (sym h));
+      },
+    )
+
+pub returns-then-d-records : goal.returns-then-d-records
+unfolding run_on
+returns-then-d-records c =
+    let f = sym c.fits2.ensures ∙ not-false _ c.if-not-fits.false in
+    (rw f c.run_passes.ensures, record { kept = unfit f })
+
+pub slice_bounds-list-end-2 : goal.slice_bounds-list-end-2
+slice_bounds-list-end-2 c = let l = c.list_diodes-d in within _ _ _ (list_bounded _ _ _ _ l.ensures) l.auto.1.0
+
+pub slice_bounds-run_held-end : goal.slice_bounds-run_held-end
+slice_bounds-run_held-end c = let l = c.list_diodes-d in sym (length-take-le _ _ (within _ _ _ (list_bounded _ _ _ _ l.ensures) l.auto.1.0))
+
+pub run_held-requires : goal.run_held-requires
+run_held-requires c =
+    let l = c.list_diodes-d in
+    (sized _ _ _ _ _ (sym c.fits2.ensures ∙ not-false _ c.if-not-fits.false), listed_front _ _ _ (within _ _ _ (list_bounded _ _ _ _ l.ensures) l.auto.1.0) (list_lists _ _ _ _ l.ensures (roomy _ c.bytes-list.ensures)))
+
+pub returns : goal.returns
+unfolding run_on
+returns c =
+    let f = sym c.fits2.ensures ∙ not-false _ c.if-not-fits.false in
+    (rw f c.run_held.ensures, record { kept = unfit f })

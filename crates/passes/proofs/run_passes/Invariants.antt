@@ -1,0 +1,26 @@
+use Prim.Native.Nat.{ℕ, ◌<◌, ◌-◌}
+use mathlib.Core.Path.{◌≡◌, refl, sym, ap, ◌∙◌, subst}
+use mathlib.Core.Bool.{Bool, true, false, not, ◌&&◌, false≢true, and-eq-true_iff as both}
+use mathlib.Core.List.{List}
+use lib.ListN.{length}
+use lib.Ieee.{Float}
+use native.Mathlib.Omega.{arith}
+use borrow.Author.Tests.{not-true, not-false}
+use Rattle.steps.specs.declared.Counters.{Counters}
+use Rattle.steps.specs.declared.Job.{Job}
+use Rattle.steps.specs.Counters.{going}
+use Rattle.machine.specs.State.{State, buffers_of, state_of}
+use Rattle.machine.specs.Machine.{pass, run_for}
+use Rattle.machine.specs.Laws.Budget.{run_stopped, run_step}
+use Rattle.passes.specs.Laws.Sized.{resized}
+use Rattle.passes.specs.Attempt.{Circuit, circuit_of, attempt_of}
+use Rattle.passes.specs.Again.{alike, Holder, Holds, Usable}
+use Rattle.passes.proofs.Again.{later, next_pass}
+use Rattle.passes.proofs.Joins.{takes_over, pass_joins}
+use borrow.Author.Rules.{rules}
+use Rattle.passes.proofs.run_passes.Given as goal
+
+abbrev pub invariant-loop-left : goal.invariant-loop-left
+invariant-loop-left l = Inv (circuit_of l.j (length l.initial.vector) l.sheet l.points) (state_of l.initial.s l.initial.accepted (buffers_of l.base l.initial.system l.initial.vector l.initial.memory l.initial.rows)) l.initial.held l.held l.initial.elimination l.elimination (state_of l.s l.accepted (buffers_of l.base l.system l.vector l.memory l.rows)) l.left l.known
+
+--MEASURE measure-loop-left l.left

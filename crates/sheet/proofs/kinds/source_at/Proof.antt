@@ -1,9 +1,0 @@
-use borrow.Author.Rules.{rules}
-use Rattle.sheet.proofs.kinds.source_at.Statement.{statement}
-use Rattle.sheet.proofs.kinds.source_at.Tie as tie
-
-returns : tie.Need-returns
-returns c = cc
-
-pub source_at_spec : {M : Type 1} → statement M
-source_at_spec = tie.close (tie.spec (λ c κs. search rules) returns)

@@ -1,0 +1,13 @@
+-- `single::marked` meets its contract.
+use mathlib.Core.Path.{sym, ap}
+use Rattle.single.specs.Single.{mark_of}
+use borrow.Author.Rules.{rules}
+use Rattle.single.proofs.marked.Goals as goal
+
+pub returns-in-Refused : goal.returns-in-Refused
+unfolding mark_of
+returns-in-Refused c = ap mark_of (sym c.r-1.given.1)
+
+pub returns-in-Ended : goal.returns-in-Ended
+unfolding mark_of
+returns-in-Ended c = ap mark_of (sym c.r-in-Ended-1.given.1)

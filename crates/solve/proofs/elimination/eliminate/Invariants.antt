@@ -1,0 +1,18 @@
+use mathlib.Core.Path.{◌≡◌, refl, sym, ap, ◌∙◌, subst}
+use mathlib.Core.Logic.{⊎_elim}
+use mathlib.Core.Bool.{Bool, true, false}
+use mathlib.Core.List.{List}
+use Prim.Native.Nat.{ℕ, ◌+◌, ◌-◌, ◌≤◌}
+use native.Mathlib.Omega.{arith}
+use lib.ListN.{length}
+use lib.Ieee.{Float}
+use Rattle.loops.specs.Loop.{turns}
+use Rattle.loops.specs.Laws.Loop.{more, done}
+use Rattle.solve.specs.Solve.{row_start, column, column_next, eliminated}
+use borrow.Author.Rules.{rules}
+use Rattle.solve.proofs.elimination.eliminate.Given as goal
+
+abbrev pub invariant-loop-i : goal.invariant-loop-i
+invariant-loop-i l = (1 ≤ l.i) × (l.i ≤ l.n - 2) × (length l.m ≡ length l.initial.m) × ((s : Bool × List Float) → ◌≡◌ {A = Bool × List Float} (l.initial.going, l.initial.m) (turns 1 (column_next (row_start l.n) l.n) s) → ◌≡◌ {A = Bool × List Float} (l.going, l.m) (turns l.i (column_next (row_start l.n) l.n) s))
+
+--MEASURE measure-loop-i l.n - l.i

@@ -1,0 +1,11 @@
+use Rattle.solve.specs.Solve.{reduced}
+use borrow.Author.Rules.{rules}
+use Rattle.solve.proofs.elimination.reduce.Goals as goal
+
+pub returns-then-m-to : goal.returns-then-m-to
+unfolding reduced
+returns-then-m-to c = rw c.if-m-to.true
+
+pub returns : goal.returns
+unfolding reduced
+returns c = rw c.if-m-to.false c.less_scaled.ensures

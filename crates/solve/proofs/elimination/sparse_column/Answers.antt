@@ -1,0 +1,20 @@
+use Rattle.solve.proofs.Listed.{stops, goes}
+use borrow.Author.Rules.{rules}
+use Rattle.solve.proofs.elimination.sparse_column.Goals as goal
+
+pub returns-then-m-at : goal.returns-then-m-at
+returns-then-m-at c =
+    let a = c.args in
+    let t = rw c.row_start-p.ensures.0 at c.if-m-at.true in
+    stops a.n a.k _ a.m.now (search rules) (search rules) c.search-found.ensures.0 t
+
+pub clear_listed-requires : goal.clear_listed-requires
+clear_listed-requires c = (search rules, search rules, search rules, search rules, c.search-found.ensures.3)
+
+pub returns : goal.returns
+returns c =
+    let a = c.args in
+    let f = c.search-found in
+    let t = rw c.row_start-p.ensures.0 at c.if-m-at.false in
+    let e = rw (c.row_start-p.ensures.0, c.row_start-to.ensures.0) at c.swap_rows.ensures in
+    goes a.n a.k _ a.m.now (search rules) (search rules) f.ensures.0 f.ensures.1 t f.result.count f.new.1.0 _ _ f.ensures.4 e (search rules) c.clear_listed.ensures

@@ -1,0 +1,18 @@
+use mathlib.Core.Path.{◌≡◌, ap, ◌∙◌}
+use mathlib.Core.Logic.{⊎_elim}
+use mathlib.Core.Bool.{true, false}
+use Prim.Native.Nat.{ℕ, ◌+◌, ◌-◌, ◌≤◌, ◌<◌}
+use native.Mathlib.Omega.{arith}
+use lib.Ieee.{Float, lt}
+use Rattle.num.specs.Floats.{nought}
+use Rattle.loops.specs.Loop.{turns}
+use Rattle.solve.specs.Solve.{row_start, larger}
+use Rattle.solve.specs.Inner.{pick, first_of}
+use Rattle.solve.proofs.Lanes.{Joined, started, one_row, two_rows, first_of_lem}
+use borrow.Author.Rules.{rules}
+use Rattle.solve.proofs.pivot.next_abs.Given as goal
+
+abbrev pub invariant-loop-i : goal.invariant-loop-i
+invariant-loop-i l = (l.i ≤ l.end - l.k) × (l.row < l.end) × (l.other < l.end) × (l.row ≤ l.k + l.i) × (l.other ≤ l.k + l.i) × Joined (l.size, l.row) (l.other_size, l.other) (turns l.i (larger (row_start l.n) l.k l.m) (nought, l.k))
+
+--MEASURE measure-loop-i l.end - l.k - l.i

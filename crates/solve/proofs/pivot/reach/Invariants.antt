@@ -1,0 +1,12 @@
+use mathlib.Core.Logic.{⊎_elim}
+use Prim.Native.Nat.{◌-◌, ◌≤◌, ◌<◌}
+use native.Mathlib.Nat.{eq-or-lt_of_le}
+use native.Mathlib.Omega.{arith}
+use Rattle.solve.specs.Inner.{Empty}
+use borrow.Author.Rules.{rules}
+use Rattle.solve.proofs.pivot.reach.Given as goal
+
+abbrev pub invariant-loop-r : goal.invariant-loop-r
+invariant-loop-r l = (l.k < l.r) × (l.r ≤ l.n) × Empty l.n l.k l.r l.m
+
+--MEASURE measure-loop-r l.r

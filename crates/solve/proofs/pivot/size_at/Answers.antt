@@ -1,0 +1,5 @@
+use borrow.Author.Rules.{rules}
+use Rattle.solve.proofs.pivot.size_at.Goals as goal
+
+pub returns : goal.returns
+returns c = rw (← c.row_start.ensures.0) c.unsigned.ensures

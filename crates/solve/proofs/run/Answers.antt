@@ -1,0 +1,7 @@
+use Rattle.solve.specs.Solve.{solution}
+use borrow.Author.Rules.{rules}
+use Rattle.solve.proofs.run.Goals as goal
+
+pub returns : goal.returns
+unfolding solution
+returns c = (c.eliminate.ensures, rw (← c.eliminate.ensures) c.substitute.ensures)

@@ -1,0 +1,13 @@
+use mathlib.Core.Path.{◌≡◌}
+use Prim.Native.Nat.{◌-◌, ◌≤◌}
+use Rattle.num.specs.Floats.{nought}
+use Rattle.loops.specs.Loop.{turns}
+use Rattle.loops.specs.Laws.Loop.{more, done}
+use Rattle.solve.specs.Solve.{row_start, add_one, dot}
+use borrow.Author.Rules.{rules}
+use Rattle.solve.proofs.substitution.rest.Given as goal
+
+abbrev pub invariant-loop-j : goal.invariant-loop-j
+invariant-loop-j l = (l.j ≤ l.j-end) × (l.start ≡ row_start l.n l.i) × (l.s ≡ turns l.j (add_one (row_start l.n) l.m l.x l.i) nought)
+
+--MEASURE measure-loop-j l.j-end - l.j

@@ -1,0 +1,15 @@
+use mathlib.Core.Path.{◌≡◌, sym, ◌∙◌}
+use mathlib.Core.Logic.{⊎_elim}
+use Prim.Native.Nat.{◌+◌, ◌-◌, ◌≤◌}
+use borrow.Author.Tests.{not-false}
+use Rattle.num.specs.Floats.{nought}
+use Rattle.loops.specs.Loop.{turns}
+use Rattle.solve.specs.Solve.{row_start, add_one}
+use Rattle.solve.proofs.Terms.{four_added, four_skipped}
+use borrow.Author.Rules.{rules}
+use Rattle.solve.proofs.substitution.sparse_rest.Given as goal
+
+abbrev pub invariant-loop-j : goal.invariant-loop-j
+invariant-loop-j l = (l.j ≤ l.n - (l.i + 1)) × (l.start ≡ row_start l.n l.i) × (l.s ≡ turns l.j (add_one (row_start l.n) l.m l.x l.i) nought)
+
+--MEASURE measure-loop-j l.n - (l.i + 1) - l.j

@@ -1,0 +1,24 @@
+use mathlib.Core.Path.{◌≡◌, refl, sym, ◌∙◌}
+use mathlib.Core.Bool.{true}
+use Prim.Native.Nat.{◌+◌, ◌-◌, ◌≤◌, ◌<◌}
+use native.Mathlib.Omega.{arith}
+use denote.Floats.{passes}
+use lib.ListN.{length, set, length-set}
+use lib.Seq.{get_or-set_same}
+use lib.Ieee.{nan}
+use lib.Ieee.Bits.{is_true}
+use lib.Ieee.Fits.{and_l, and_r}
+use Rattle.num.specs.Floats.{nought}
+use Rattle.loops.specs.Loop.{down}
+use Rattle.loops.specs.Laws.Loop.{less}
+use Rattle.num.specs.Lists.{«at»}
+use Rattle.solve.specs.Solve.{row_start, back_one}
+use Rattle.solve.specs.Inner.{AllFinite}
+use Rattle.solve.proofs.Unknowns.{any_vector, last_finite, more_finite}
+use borrow.Author.Rules.{rules}
+use Rattle.solve.proofs.substitution.substitute.Given as goal
+
+abbrev pub invariant-loop-i : goal.invariant-loop-i
+invariant-loop-i l = (l.i ≤ l.initial.i) × (l.i < l.n) × (length l.x ≡ l.n) × (length l.initial.x ≡ l.n) × (l.next ≡ «at» l.x l.i) × (down (l.i - 1) (back_one (row_start l.n) l.n l.m) l.x ≡ down (l.initial.i - 1) (back_one (row_start l.n) l.n l.m) l.initial.x) × (l.tame ≡ true → AllFinite l.i l.n l.x)
+
+--MEASURE measure-loop-i l.i

@@ -1,0 +1,8 @@
+use mathlib.Core.Path.{refl}
+use Prim.Native.Nat.{◌-◌}
+use Rattle.solve.specs.Laws.Entries.{less_join}
+use borrow.Author.Rules.{rules}
+use Rattle.solve.proofs.update.less_two.Goals as goal
+
+pub returns : goal.returns
+returns c = let a = c.args in less_join a.from a.to 1 1 2 a.ratio a.m.now _ _ refl c.less_one.ensures c.less_one-2.ensures

@@ -1,0 +1,54 @@
+-- `spreads::runs::run_jobs` meets its contract.
+use Prim.Native.Nat.{ℕ, ◌+◌, ◌-◌}
+use mathlib.Core.Path.{◌≡◌, subst}
+use native.Mathlib.Omega.{arith}
+use lib.ListN.{length}
+use Rattle.spreads.specs.Runs.{table_of, table_after, job_at}
+use Rattle.spreads.proofs.Turn.{Turn, begun, turned}
+use Rattle.loops.specs.Laws.Each.{row}
+use borrow.Author.Rules.{rules}
+use Rattle.spreads.proofs.runs.run_jobs.Goals as goal
+
+pub loop-job-init : goal.loop-job-init
+loop-job-init c = begun _ _ _ _ _ _ _ _ _ _ _ _ _ _ _ c.requires.1
+
+pub run_job-m-requires : goal.run_job-m-requires
+run_job-m-requires c = let l = c.loop-job in
+    let a = c.args in
+    let r = c.requires.0 in
+    let t = c.loop-job-test.true in (
+      r.small,
+      omega (arith, row l.job a.jobs a.bytes t, r.whole),
+      omega (arith, row l.job a.jobs (a.nodes + a.sources) t, r.vector-room, l.invariant.vector-length),
+      l.invariant.sized,
+    )
+
+pub offset_bounds-numbers-job : goal.offset_bounds-numbers-job
+offset_bounds-numbers-job c = omega (arith, c.loop-job-test.true, c.requires.0.few)
+
+pub bounds-numbers-job : goal.bounds-numbers-job
+bounds-numbers-job c = omega (arith, c.loop-job-test.true, c.requires.0.number-room, c.loop-job.invariant.number-length)
+
+pub offset_bounds-places-job : goal.offset_bounds-places-job
+offset_bounds-places-job c = omega (arith, c.loop-job-test.true, c.requires.0.few)
+
+pub bounds-places-job : goal.bounds-places-job
+bounds-places-job c = omega (arith, c.loop-job-test.true, c.requires.0.place-room, c.loop-job.invariant.place-length)
+
+pub offset_bounds-passes-job : goal.offset_bounds-passes-job
+offset_bounds-passes-job c = omega (arith, c.loop-job-test.true, c.requires.0.few)
+
+pub bounds-passes-job : goal.bounds-passes-job
+bounds-passes-job c = omega (arith, c.loop-job-test.true, c.requires.0.pass-room, c.loop-job.invariant.pass-length)
+
+pub loop-job-preserved : goal.loop-job-preserved
+loop-job-preserved c = let l = c.loop-job in
+    let a = c.args in
+    let k = c.run_job-m in
+    turned _ _ _ _ _ _ _ _ _ _ _ _ _ _ _ _ _ _ _ l.job l.vectors _ l.numbers l.places l.passes _ l.invariant c.loop-job-test.true c.requires.0 k.auto.1.1.1.1.1.1.1.0 k.auto.1.1.1.1.1.1.1.1.0 k.auto.1.1.1.1.1.1.1.1.1.0 k.auto.1.1.1.1.1.1.1.1.1.1.0 k.auto.1.1.1.1.1.1.1.1.1.1.1.0 k.ensures
+
+pub returns : goal.returns
+returns c = let l = c.loop-job in
+    let a = c.args in
+    let e : l.job ≡ a.jobs = omega (arith, l.invariant.below, c.loop-job-test.false) in
+    subst (λ (i : ℕ). table_of l.vectors l.numbers l.places l.passes ≡ table_after (job_at a.o a.nodes a.sources a.bytes a.sheets.now a.points.now) (a.nodes + a.sources) i a.vectors.now a.numbers.now a.places.now a.passes.now) e l.invariant.ran
