@@ -12,5 +12,3 @@ use Rattle.behind.proofs.first_in.Given as goal
 
 abbrev pub invariant-loop-i : goal.invariant-loop-i
 invariant-loop-i l = (l.i ≤ l.count) × (first_from (behind_at l.reltol l.vntol l.sheet l.vector l.memory) (l.count - l.i) l.i ≡ first_in l.reltol l.vntol l.sheet l.vector l.memory)
-
---MEASURE measure-loop-i l.count - l.i

@@ -11,5 +11,3 @@ use Rattle.convergence.proofs.check.Given as goal
 
 abbrev pub invariant-loop-i : goal.invariant-loop-i
 invariant-loop-i l = (l.i ≤ length l.x) × (l.r ≡ turns l.i (place_at l.x l.y l.nodes l.o) Yes)
-
---MEASURE measure-loop-i length l.x - l.i

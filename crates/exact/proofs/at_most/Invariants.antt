@@ -7,4 +7,5 @@ use Rattle.exact.proofs.at_most.Given as goal
 abbrev pub invariant-loop-i : goal.invariant-loop-i
 invariant-loop-i l = value (drop l.i l.a) ≡ value (drop l.i l.b)
 
---MEASURE measure-loop-i l.i
+abbrev pub decreases-loop-i : goal.decreases-loop-i
+decreases-loop-i l = l.i

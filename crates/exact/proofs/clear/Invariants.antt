@@ -6,5 +6,3 @@ use Rattle.exact.proofs.clear.Given as goal
 
 abbrev pub invariant-loop-i : goal.invariant-loop-i
 invariant-loop-i l = (l.i ≤ length l.initial.row) × (length l.row ≡ length l.initial.row) × (l.row ≡ replicate l.i 0 ++ drop l.i l.initial.row)
-
---MEASURE measure-loop-i length l.initial.row - l.i

@@ -15,5 +15,3 @@ use Rattle.judge.proofs.add_row.Given as goal
 
 abbrev pub invariant-loop-j : goal.invariant-loop-j
 invariant-loop-j l = (l.j ≤ l.n) × Sums l.j (total l.m l.x l.from l.j) l.plus l.minus
-
---MEASURE measure-loop-j l.n - l.j

@@ -12,5 +12,3 @@ use Rattle.judge.proofs.all_allowed.Given as goal
 
 abbrev pub invariant-loop-i : goal.invariant-loop-i
 invariant-loop-i l = (l.i ≤ length l.s) × (every (allowed l.tolerance) (drop l.i l.s) ≡ every (allowed l.tolerance) l.s)
-
---MEASURE measure-loop-i length l.s - l.i

@@ -15,5 +15,3 @@ use Rattle.judge.proofs.judge_rows.Given as goal
 
 abbrev pub invariant-loop-i : goal.invariant-loop-i
 invariant-loop-i l = (l.i ≤ l.n) × (named (holds l.n l.m l.x l.t) (l.n - l.i) l.i ≡ named (holds l.n l.m l.x l.t) l.n 0)
-
---MEASURE measure-loop-i l.n - l.i

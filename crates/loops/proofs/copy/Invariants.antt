@@ -10,5 +10,3 @@ use Rattle.loops.proofs.copy.Given as goal
 
 abbrev pub invariant-loop-i : goal.invariant-loop-i
 invariant-loop-i l = (l.i ≤ l.n) × (l.n ≡ min (length l.src) (length l.initial.dst)) × (length l.dst ≡ length l.initial.dst) × (l.dst ≡ front l.i l.src l.initial.dst)
-
---MEASURE measure-loop-i l.n - l.i

@@ -9,5 +9,3 @@ use Rattle.loops.proofs.fill.Given as goal
 
 abbrev pub invariant-loop-i : goal.invariant-loop-i
 invariant-loop-i l = (l.i ≤ l.i-end) × (l.i-end ≡ length l.initial.x) × (length l.x ≡ length l.initial.x) × (l.x ≡ replicate l.i l.v ++ drop l.i l.initial.x)
-
---MEASURE measure-loop-i l.i-end - l.i

@@ -23,4 +23,5 @@ use Rattle.passes.proofs.run_passes.Given as goal
 abbrev pub invariant-loop-left : goal.invariant-loop-left
 invariant-loop-left l = Inv (circuit_of l.j (length l.initial.vector) l.sheet l.points) (state_of l.initial.s l.initial.accepted (buffers_of l.base l.initial.system l.initial.vector l.initial.memory l.initial.rows)) l.initial.held l.held l.initial.elimination l.elimination (state_of l.s l.accepted (buffers_of l.base l.system l.vector l.memory l.rows)) l.left l.known
 
---MEASURE measure-loop-left l.left
+abbrev pub decreases-loop-left : goal.decreases-loop-left
+decreases-loop-left l = l.left

@@ -22,4 +22,5 @@ use Rattle.sheet.proofs.check_sheet.Given as goal
 abbrev pub invariant-loop-i : goal.invariant-loop-i
 invariant-loop-i l = (l.i ≤ l.count) × (l.i ≤ l.shared) × (check_from l.sheet l.l (l.count - l.i) l.i ≡ check_of l.sheet l.l)
 
---MEASURE measure-loop-i l.count - l.i
+abbrev pub decreases-loop-i : goal.decreases-loop-i
+decreases-loop-i l = l.count - l.i

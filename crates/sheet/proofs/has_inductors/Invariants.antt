@@ -15,5 +15,3 @@ use Rattle.sheet.proofs.has_inductors.Given as goal
 
 abbrev pub invariant-loop-i : goal.invariant-loop-i
 invariant-loop-i l = (l.i ≤ l.count) × (◌≡◌ {A = Bool} l.found (inductor_among l.sheet l.i))
-
---MEASURE measure-loop-i l.count - l.i

@@ -11,5 +11,3 @@ use Rattle.tally.proofs.add_up.Given as goal
 
 abbrev pub invariant-loop-j : goal.invariant-loop-j
 invariant-loop-j l = (l.j ≤ l.jobs) × Sums l.j (sum_of (number_in l.numbers) (value_in l.n l.unknown l.vectors) l.j) l.plus l.minus × (l.r ≡ report_over (number_in l.numbers) (value_in l.n l.unknown l.vectors) l.j)
-
---MEASURE measure-loop-j l.jobs - l.j

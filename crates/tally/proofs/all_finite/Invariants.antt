@@ -12,5 +12,3 @@ use Rattle.tally.proofs.all_finite.Given as goal
 
 abbrev pub invariant-loop-j : goal.invariant-loop-j
 invariant-loop-j l = (l.j ≤ l.jobs) × (l.all ≡ all_finite (number_in l.numbers) (value_in l.n l.unknown l.vectors) l.j)
-
---MEASURE measure-loop-j l.jobs - l.j

@@ -8,5 +8,3 @@ use Rattle.tally.proofs.count.Given as goal
 
 abbrev pub invariant-loop-j : goal.invariant-loop-j
 invariant-loop-j l = (l.j ≤ l.jobs) × (l.c ≡ how_many (number_in l.numbers) l.j l.k)
-
---MEASURE measure-loop-j l.jobs - l.j

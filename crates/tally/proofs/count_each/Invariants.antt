@@ -11,5 +11,3 @@ use Rattle.tally.proofs.count_each.Given as goal
 
 abbrev pub invariant-loop-k : goal.invariant-loop-k
 invariant-loop-k l = (l.k ≤ l.kinds) × (length l.counts ≡ length l.initial.counts) × (l.counts ≡ each (how_many (number_in l.numbers) l.jobs) l.k ++ drop l.k l.initial.counts)
-
---MEASURE measure-loop-k l.kinds - l.k

@@ -12,4 +12,5 @@ use Rattle.decimal.proofs.limbs.over.Given as goal
 abbrev pub invariant-loop-i : goal.invariant-loop-i
 invariant-loop-i l = (l.i ≤ length l.initial.l) × Lowered l.initial.l l.d l.i l.left l.l
 
---MEASURE measure-loop-i l.i
+abbrev pub decreases-loop-i : goal.decreases-loop-i
+decreases-loop-i l = l.i

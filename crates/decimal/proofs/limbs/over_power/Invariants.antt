@@ -14,5 +14,3 @@ use Rattle.decimal.proofs.limbs.over_power.Given as goal
 
 abbrev pub invariant-loop-i : goal.invariant-loop-i
 invariant-loop-i l = (l.i ≤ l.n) × Holds (length l.initial.l) l.l (value l.initial.l / l.d ^ l.i) × (l.even ≡ eqb (value l.initial.l % l.d ^ l.i) 0)
-
---MEASURE measure-loop-i l.n - l.i

@@ -11,5 +11,3 @@ use Rattle.decimal.proofs.limbs.times.Given as goal
 
 abbrev pub invariant-loop-i : goal.invariant-loop-i
 invariant-loop-i l = (l.i ≤ length l.initial.l) × Raised l.initial.l l.k l.i l.carry l.l
-
---MEASURE measure-loop-i length l.initial.l - l.i

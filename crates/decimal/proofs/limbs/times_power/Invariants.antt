@@ -13,5 +13,3 @@ use Rattle.decimal.proofs.limbs.times_power.Given as goal
 
 abbrev pub invariant-loop-i : goal.invariant-loop-i
 invariant-loop-i l = (l.i ≤ l.n) × Holds (length l.initial.l) l.l (value l.initial.l * l.k ^ l.i)
-
---MEASURE measure-loop-i l.n - l.i

@@ -10,5 +10,3 @@ use Rattle.engine.proofs.begin.forget.Given as goal
 
 abbrev pub invariant-loop-i : goal.invariant-loop-i
 invariant-loop-i l = (l.i ≤ length l.initial.memory) × (length l.memory ≡ length l.initial.memory) × (l.memory ≡ turns l.i (forget_at l.sheet) l.initial.memory)
-
---MEASURE measure-loop-i length l.initial.memory - l.i

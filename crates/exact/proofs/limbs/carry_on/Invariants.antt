@@ -6,4 +6,5 @@ use Rattle.exact.proofs.limbs.carry_on.Given as goal
 abbrev pub invariant-loop-left : goal.invariant-loop-left
 invariant-loop-left l = (length l.limbs ≡ length l.initial.limbs) × (value l.limbs + l.left * 2 ^ (64 * l.i) ≡ value l.initial.limbs + l.carry * 2 ^ (64 * l.from)) × (l.left < 2 ^ 64)
 
---MEASURE measure-loop-left length l.initial.limbs - l.i
+abbrev pub decreases-loop-left : goal.decreases-loop-left
+decreases-loop-left l = length l.initial.limbs - l.i

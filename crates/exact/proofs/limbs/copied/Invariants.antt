@@ -5,5 +5,3 @@ use Rattle.exact.proofs.limbs.copied.Given as goal
 
 abbrev pub invariant-loop-i : goal.invariant-loop-i
 invariant-loop-i l = (l.i ≤ length l.l) × (length l.r ≡ 67) × (l.r ≡ take l.i l.l ++ drop l.i l.initial.r)
-
---MEASURE measure-loop-i length l.l - l.i

@@ -11,5 +11,3 @@ use Rattle.groups.proofs.diodes.list_diodes.Given as goal
 
 abbrev pub invariant-loop-i : goal.invariant-loop-i
 invariant-loop-i l = (l.i ≤ l.count) × (l.found ≤ l.i) × (l.count ≤ 256) × (l.count ≤ length l.initial.places) × (length l.places ≡ length l.initial.places) × (◌≡◌ {A = Places} (places_of l.found l.places) (fronted (diodes_among l.sheet l.i) l.initial.places))
-
---MEASURE measure-loop-i l.count - l.i

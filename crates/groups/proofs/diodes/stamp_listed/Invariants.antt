@@ -10,5 +10,3 @@ use Rattle.groups.proofs.diodes.stamp_listed.Given as goal
 
 abbrev pub invariant-loop-j : goal.invariant-loop-j
 invariant-loop-j l = (l.j ≤ length l.places) × (length l.memory ≡ length l.initial.memory) × (length l.m ≡ length l.initial.m) × (◌≡◌ {A = Stamped} (stamped_of l.code l.m l.memory) (turns l.j (listed_at l.o l.sheet l.n l.x l.places) (stamped_of 0 l.initial.m l.initial.memory)))
-
---MEASURE measure-loop-j length l.places - l.j

@@ -12,5 +12,3 @@ use Rattle.groups.proofs.diodes.stamp_rest.Given as goal
 
 abbrev pub invariant-loop-i : goal.invariant-loop-i
 invariant-loop-i l = (256 ≤ l.i) × (l.i - 256 ≤ l.count - 256) × (length l.memory ≡ length l.initial.memory) × (length l.m ≡ length l.initial.m) × (◌≡◌ {A = Stamped} (stamped_of l.code l.m l.memory) (turns (l.i - 256) (rest_at l.o l.sheet l.n l.x) (stamped_of l.before l.initial.m l.initial.memory)))
-
---MEASURE measure-loop-i l.count - l.i

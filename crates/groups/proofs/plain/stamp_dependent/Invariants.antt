@@ -8,5 +8,3 @@ use Rattle.groups.proofs.plain.stamp_dependent.Given as goal
 
 abbrev pub invariant-loop-i : goal.invariant-loop-i
 invariant-loop-i l = Walking (λ _. dependent_writes l.nodes l.n) l.n l.sheet l.initial.m l.count l.i l.m
-
---MEASURE measure-loop-i l.count - l.i

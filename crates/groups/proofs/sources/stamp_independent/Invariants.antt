@@ -9,5 +9,3 @@ use Rattle.groups.proofs.sources.stamp_independent.Given as goal
 
 abbrev pub invariant-loop-i : goal.invariant-loop-i
 invariant-loop-i l = (l.i ≤ l.count) × (length l.m ≡ length l.initial.m) × (◌≡◌ {A = Driven} (driven_of l.code l.m) (turns l.i (driven_at l.w l.sheet l.points) (driven_of 0 l.initial.m)))
-
---MEASURE measure-loop-i l.count - l.i

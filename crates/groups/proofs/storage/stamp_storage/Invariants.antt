@@ -8,5 +8,3 @@ use Rattle.groups.proofs.storage.stamp_storage.Given as goal
 
 abbrev pub invariant-loop-i : goal.invariant-loop-i
 invariant-loop-i l = Walking (storage_writes l.p l.x l.memory) l.p.order l.sheet l.initial.m l.count l.i l.m
-
---MEASURE measure-loop-i l.count - l.i

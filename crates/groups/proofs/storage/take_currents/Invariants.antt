@@ -14,5 +14,3 @@ use Rattle.groups.proofs.storage.take_currents.Given as goal
 
 abbrev pub invariant-loop-i : goal.invariant-loop-i
 invariant-loop-i l = (l.i ≤ l.count) × (length l.memory ≡ length l.initial.memory) × (l.memory ≡ turns l.i (with_current_at l.p l.sheet l.v) l.initial.memory)
-
---MEASURE measure-loop-i l.count - l.i

@@ -5,5 +5,3 @@ use Rattle.mean.proofs.leading.blank.Given as goal
 
 abbrev pub invariant-loop-i : goal.invariant-loop-i
 invariant-loop-i l = (l.i ≤ l.n) × (l.clear ≡ eqb (value (take l.i l.l)) 0)
-
---MEASURE measure-loop-i l.n - l.i

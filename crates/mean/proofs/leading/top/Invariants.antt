@@ -7,4 +7,5 @@ use Rattle.mean.proofs.leading.top.Given as goal
 abbrev pub invariant-loop-h : goal.invariant-loop-h
 invariant-loop-h l = (17 ≤ l.h) × (l.h ≤ 65) × (value (drop (l.h + 1) l.l) ≡ 0)
 
---MEASURE measure-loop-h l.h
+abbrev pub decreases-loop-h : goal.decreases-loop-h
+decreases-loop-h l = l.h

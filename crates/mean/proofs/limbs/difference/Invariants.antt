@@ -5,5 +5,3 @@ use Rattle.mean.proofs.limbs.difference.Given as goal
 
 abbrev pub invariant-loop-i : goal.invariant-loop-i
 invariant-loop-i l = (l.i ≤ 66) × Lessened l.a l.b l.r l.borrow l.i
-
---MEASURE measure-loop-i 66 - l.i

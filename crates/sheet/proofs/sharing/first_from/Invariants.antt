@@ -13,4 +13,5 @@ use Rattle.sheet.proofs.sharing.first_from.Given as goal
 abbrev pub invariant-loop-i : goal.invariant-loop-i
 invariant-loop-i l = (l.i ≤ l.count) × ((j : ℕ) → j < l.i → alone l.sheet j ≡ true)
 
---MEASURE measure-loop-i l.count - l.i
+abbrev pub decreases-loop-i : goal.decreases-loop-i
+decreases-loop-i l = l.count - l.i

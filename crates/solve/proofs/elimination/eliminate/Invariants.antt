@@ -15,4 +15,5 @@ use Rattle.solve.proofs.elimination.eliminate.Given as goal
 abbrev pub invariant-loop-i : goal.invariant-loop-i
 invariant-loop-i l = (1 ≤ l.i) × (l.i ≤ l.n - 2) × (length l.m ≡ length l.initial.m) × ((s : Bool × List Float) → ◌≡◌ {A = Bool × List Float} (l.initial.going, l.initial.m) (turns 1 (column_next (row_start l.n) l.n) s) → ◌≡◌ {A = Bool × List Float} (l.going, l.m) (turns l.i (column_next (row_start l.n) l.n) s))
 
---MEASURE measure-loop-i l.n - l.i
+abbrev pub decreases-loop-i : goal.decreases-loop-i
+decreases-loop-i l = l.n - l.i

@@ -11,5 +11,3 @@ use Rattle.solve.proofs.elimination.swap_rows.Given as goal
 
 abbrev pub invariant-loop-i : goal.invariant-loop-i
 invariant-loop-i l = (l.i ≤ l.len) × (length l.m ≡ length l.initial.m) × (l.m ≡ turns l.i (swap_one l.a l.b) l.initial.m)
-
---MEASURE measure-loop-i l.len - l.i

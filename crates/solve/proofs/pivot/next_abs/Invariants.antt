@@ -15,4 +15,5 @@ use Rattle.solve.proofs.pivot.next_abs.Given as goal
 abbrev pub invariant-loop-i : goal.invariant-loop-i
 invariant-loop-i l = (l.i ≤ l.end - l.k) × (l.row < l.end) × (l.other < l.end) × (l.row ≤ l.k + l.i) × (l.other ≤ l.k + l.i) × Joined (l.size, l.row) (l.other_size, l.other) (turns l.i (larger (row_start l.n) l.k l.m) (nought, l.k))
 
---MEASURE measure-loop-i l.end - l.k - l.i
+abbrev pub decreases-loop-i : goal.decreases-loop-i
+decreases-loop-i l = l.end - l.k - l.i

@@ -9,4 +9,5 @@ use Rattle.solve.proofs.pivot.reach.Given as goal
 abbrev pub invariant-loop-r : goal.invariant-loop-r
 invariant-loop-r l = (l.k < l.r) × (l.r ≤ l.n) × Empty l.n l.k l.r l.m
 
---MEASURE measure-loop-r l.r
+abbrev pub decreases-loop-r : goal.decreases-loop-r
+decreases-loop-r l = l.r

@@ -17,5 +17,3 @@ use Rattle.solve.proofs.pivot.search.Given as goal
 
 abbrev pub invariant-loop-r : goal.invariant-loop-r
 invariant-loop-r l = (l.k < l.r) × (l.r ≤ l.n) × (l.count < l.r) × (length l.list ≡ length l.initial.list) × (l.best.row < l.n) × (◌≡◌ {A = Float × ℕ} (l.best.size, l.best.row) (turns (l.r - l.k) (larger (row_start l.n) l.k l.m) (nought, l.k))) × Rows l.n l.count l.list × Lists l.n l.k l.r l.count l.list l.m
-
---MEASURE measure-loop-r l.n - l.r

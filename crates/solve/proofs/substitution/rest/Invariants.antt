@@ -9,5 +9,3 @@ use Rattle.solve.proofs.substitution.rest.Given as goal
 
 abbrev pub invariant-loop-j : goal.invariant-loop-j
 invariant-loop-j l = (l.j ≤ l.j-end) × (l.start ≡ row_start l.n l.i) × (l.s ≡ turns l.j (add_one (row_start l.n) l.m l.x l.i) nought)
-
---MEASURE measure-loop-j l.j-end - l.j

@@ -12,4 +12,5 @@ use Rattle.solve.proofs.substitution.sparse_rest.Given as goal
 abbrev pub invariant-loop-j : goal.invariant-loop-j
 invariant-loop-j l = (l.j ≤ l.n - (l.i + 1)) × (l.start ≡ row_start l.n l.i) × (l.s ≡ turns l.j (add_one (row_start l.n) l.m l.x l.i) nought)
 
---MEASURE measure-loop-j l.n - (l.i + 1) - l.j
+abbrev pub decreases-loop-j : goal.decreases-loop-j
+decreases-loop-j l = l.n - (l.i + 1) - l.j

@@ -9,5 +9,3 @@ use Rattle.solve.proofs.update.less_many.Given as goal
 
 abbrev pub invariant-loop-i : goal.invariant-loop-i
 invariant-loop-i l = (l.i ≤ l.len) × (length l.m ≡ length l.initial.m) × (l.m ≡ turns l.i (less_one l.from l.to l.ratio) l.initial.m)
-
---MEASURE measure-loop-i l.len - l.i
