@@ -173,6 +173,16 @@ def ported(text):
     return TOKEN.sub(lambda m: names.get(m.group(0), m.group(0)), text)
 
 
+def theirs(text, crates):
+    """The names that a file imports from a library that is not the repository's."""
+    found = set()
+    for m in re.finditer(r"(?m)^(?:pub |ghost )*use ([\w.]+)\.\{([^}]*)\}", text):
+        path = m.group(1).split(".")
+        if path[0] != "Rattle" or path[1] not in crates:
+            found |= {n.strip() for n in m.group(2).split(",")}
+    return found
+
+
 def modules():
     """laws.antt and laws/ become Laws.antt and Laws/: a module is in camel case."""
     for f in sorted(glob.glob("crates/*/specs/laws*")):
@@ -193,6 +203,7 @@ def main():
         for o, n in sorted(names.items()):
             print(o, n)
         return
+    crates = set(os.listdir("crates"))
     sources = sorted(glob.glob("crates/*/src/**/*.rt", recursive=True))
     edits = sorted(glob.glob("crates/*/must-fail/*.edit"))
     for f in antt() + sources + edits:
@@ -206,7 +217,11 @@ def main():
                 path = "Rattle." + m.replace("/", ".")
                 if f == "crates/" + m + ".antt" or re.search("^use " + re.escape(path) + r"\.\{[^}]*\b" + n + r"\b", text, re.M):
                     lemmas.add(n)
-        text = turned(text, names, fields, lemmas)
+        here = {o: n for o, n in names.items() if o not in theirs(text, crates)}
+        if f.endswith(".rt"):
+            # a lemma's name that is in snake case already may be a function's too
+            here = {o: n for o, n in here.items() if "-" in o or re.search("[A-Z]", o)}
+        text = turned(text, here, fields, lemmas)
         if os.path.basename(f) == "Proof.antt":
             # the proof of f is f_spec
             spec = set(re.findall(r"(?m)^pub ([\w\-]+-spec) :", text))
