@@ -1,4 +1,3 @@
-use borrow.Author.Rules.{rules}
 use Rattle.loops.proofs.clear_if.Goals as goal
 
 pub returns-then-yes : goal.returns-then-yes

@@ -1,10 +1,10 @@
-use Prim.Native.Nat.{◌≤◌, ◌-◌, min}
+use Prim.Native.Nat.{min}
 use mathlib.Core.Path.{◌≡◌, refl, ◌∙◌}
 use native.Mathlib.Omega.{arith}
 use borrow.Author.Rules.{rules}
 use lib.ListN.{length}
 use lib.Ieee.{nan}
-use Rattle.loops.specs.Loop.{front, copied}
+use Rattle.loops.specs.Loop.{copied}
 use Rattle.loops.specs.Laws.Loop.{front_more}
 use Rattle.loops.proofs.copy.Goals as goal
 

@@ -1,11 +1,7 @@
-use Prim.Native.Nat.{◌≤◌, ◌-◌, min}
-use mathlib.Core.Path.{◌≡◌, refl, ◌∙◌}
-use native.Mathlib.Omega.{arith}
-use borrow.Author.Rules.{rules}
+use Prim.Native.Nat.{◌≤◌, min}
+use mathlib.Core.Path.{◌≡◌}
 use lib.ListN.{length}
-use lib.Ieee.{nan}
-use Rattle.loops.specs.Loop.{front, copied}
-use Rattle.loops.specs.Laws.Loop.{front_more}
+use Rattle.loops.specs.Loop.{front}
 use Rattle.loops.proofs.copy.Given as goal
 
 abbrev pub invariant-loop-i : goal.invariant-loop-i

@@ -1,10 +1,7 @@
 -- the first i numbers are v, and the rest stands
-use Prim.Native.Nat.{◌≤◌, ◌-◌}
-use mathlib.Core.Path.{◌≡◌, refl, ◌∙◌}
-use mathlib.Core.List.{◌++◌}
+use mathlib.Core.Path.{refl, ◌∙◌}
 use native.Mathlib.Omega.{arith}
 use borrow.Author.Rules.{rules}
-use lib.ListN.{length, replicate, drop}
 use Rattle.loops.specs.Laws.Loop.{fill_more, fill_done}
 use Rattle.loops.proofs.fill.Goals as goal
 

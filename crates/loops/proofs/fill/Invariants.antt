@@ -1,10 +1,7 @@
-use Prim.Native.Nat.{◌≤◌, ◌-◌}
-use mathlib.Core.Path.{◌≡◌, refl, ◌∙◌}
+use Prim.Native.Nat.{◌≤◌}
+use mathlib.Core.Path.{◌≡◌}
 use mathlib.Core.List.{◌++◌}
-use native.Mathlib.Omega.{arith}
-use borrow.Author.Rules.{rules}
 use lib.ListN.{length, replicate, drop}
-use Rattle.loops.specs.Laws.Loop.{fill_more, fill_done}
 use Rattle.loops.proofs.fill.Given as goal
 
 abbrev pub invariant-loop-i : goal.invariant-loop-i
