@@ -4,7 +4,6 @@ use borrow.Author.Tests.{le-leb, lt-leb, lt-ltb, le-ltb}
 use lib.ListN.{length}
 use Rattle.solve.specs.Solve.{next_abs, index_of_next_abs}
 use Rattle.solve.proofs.Sizes.{small}
-use borrow.Author.Rules.{rules}
 use Rattle.solve.proofs.index_of_next_abs.Goals as goal
 
 pub returns-then-n-gt-UNKNOWNS : goal.returns-then-n-gt-UNKNOWNS

@@ -2,7 +2,6 @@ use native.Mathlib.Omega.{arith}
 use Prim.Native.Nat.{◌+◌, ◌*◌}
 use borrow.Author.Tests.{le-leb, lt-leb}
 use Rattle.solve.proofs.Sizes.{small}
-use borrow.Author.Rules.{rules}
 use Rattle.solve.proofs.refusal.Goals as goal
 
 pub returns-then-n-eq0 : goal.returns-then-n-eq0

@@ -1,5 +1,4 @@
 use Rattle.solve.specs.Solve.{solution}
-use borrow.Author.Rules.{rules}
 use Rattle.solve.proofs.run.Goals as goal
 
 pub returns : goal.returns

@@ -7,7 +7,6 @@ use lib.Seq.{length-take-le}
 use Rattle.solve.specs.Solve.{Solved, solve_of}
 use Rattle.solve.specs.Laws.Solve.{fit, solves, solve_lengths}
 use Rattle.solve.proofs.Sizes.{small}
-use borrow.Author.Rules.{rules}
 use Rattle.solve.proofs.solve.Goals as goal
 
 whole : goal.returns

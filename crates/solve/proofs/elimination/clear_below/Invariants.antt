@@ -1,10 +1,8 @@
-use mathlib.Core.Path.{◌≡◌, refl, ap, ◌∙◌}
-use Prim.Native.Nat.{ℕ, ◌+◌, ◌-◌, ◌≤◌}
+use mathlib.Core.Path.{◌≡◌}
+use Prim.Native.Nat.{◌+◌, ◌-◌, ◌≤◌}
 use lib.ListN.{length}
 use Rattle.loops.specs.Loop.{turns}
-use Rattle.loops.specs.Laws.Loop.{more, done}
 use Rattle.solve.specs.Solve.{row_start, clear_one}
-use borrow.Author.Rules.{rules}
 use Rattle.solve.proofs.elimination.clear_below.Given as goal
 
 abbrev pub invariant-loop-i : goal.invariant-loop-i

@@ -1,10 +1,6 @@
-use mathlib.Core.Path.{◌≡◌, refl, ap, ◌∙◌}
-use Prim.Native.Nat.{ℕ, ◌+◌, ◌-◌, ◌≤◌}
-use lib.ListN.{length}
-use Rattle.loops.specs.Loop.{turns}
+use mathlib.Core.Path.{refl, ap, ◌∙◌}
+use Prim.Native.Nat.{ℕ, ◌+◌}
 use Rattle.loops.specs.Laws.Loop.{more, done}
-use Rattle.solve.specs.Solve.{row_start}
-use Rattle.solve.specs.Inner.{clear_listed}
 use borrow.Author.Rules.{rules}
 use Rattle.solve.proofs.elimination.clear_listed.Goals as goal
 

@@ -1,11 +1,9 @@
-use mathlib.Core.Path.{◌≡◌, refl, ap, ◌∙◌}
-use Prim.Native.Nat.{ℕ, ◌+◌, ◌-◌, ◌≤◌}
+use mathlib.Core.Path.{◌≡◌}
+use Prim.Native.Nat.{◌+◌, ◌-◌, ◌≤◌}
 use lib.ListN.{length}
 use Rattle.loops.specs.Loop.{turns}
-use Rattle.loops.specs.Laws.Loop.{more, done}
 use Rattle.solve.specs.Solve.{row_start}
 use Rattle.solve.specs.Inner.{clear_listed}
-use borrow.Author.Rules.{rules}
 use Rattle.solve.proofs.elimination.clear_listed.Given as goal
 
 abbrev pub invariant-loop-i : goal.invariant-loop-i

@@ -1,16 +1,15 @@
 use mathlib.Core.Path.{◌≡◌, refl, sym, ap, ◌∙◌, subst}
-use mathlib.Core.Logic.{⊎_elim}
 use mathlib.Core.Bool.{Bool, true, false}
 use mathlib.Core.List.{List}
-use Prim.Native.Nat.{ℕ, ◌+◌, ◌-◌, ◌≤◌}
+use Prim.Native.Nat.{ℕ, ◌+◌, ◌-◌}
 use native.Mathlib.Omega.{arith}
-use lib.ListN.{length}
 use lib.Ieee.{Float}
 use Rattle.loops.specs.Loop.{turns}
 use Rattle.loops.specs.Laws.Loop.{more, done}
 use Rattle.solve.specs.Solve.{row_start, column, column_next, eliminated}
 use borrow.Author.Rules.{rules}
 use Rattle.solve.proofs.elimination.eliminate.Goals as goal
+use Rattle.solve.proofs.elimination.eliminate.Goals.{then-going, else-going}
 
 -- a column that is taken, and one after a zero pivot
 ran : (row : ℕ → ℕ) (n i : ℕ) (going : Bool) (m : List Float) → going ≡ true → column row n (i + 1) m ≡ column_next row n i (going, m)
@@ -34,9 +33,12 @@ loop-i-preserved c =
     let l = c.loop-i in (
       search rules,
       search rules,
-      ⊎_elim (λ u. rw u.5 (search rules)) (λ u. rw u.1 (search rules)) c.if-going.branch,
+      elim c.if-going.branch [ then-going w ↦ rw w.m-is (search rules) | else-going w ↦ rw w.m-is (search rules) ],
       λ s e. let next = more _ _ _ l.i (l.invariant.3 s e) in
-          ⊎_elim (λ u. rw (u.5, u.6) (u.2.ensures ∙ ran _ _ _ _ _ u.0.true ∙ next)) (λ u. rw (u.1, u.2) (stopped _ _ _ _ _ u.0.left ∙ next)) c.if-going.branch,
+          elim c.if-going.branch [
+            | then-going w ↦ rw (w.m-is, w.going-is) (w.column-going-then-going.ensures ∙ ran _ _ _ _ _ w.if-going.true ∙ next)
+            | else-going w ↦ rw (w.m-is, w.going-is) (stopped _ _ _ _ _ w.if-going.false ∙ next)
+          ],
     )
 
 pub returns : goal.returns

@@ -1,5 +1,4 @@
 use Rattle.solve.specs.Solve.{reduced}
-use borrow.Author.Rules.{rules}
 use Rattle.solve.proofs.elimination.reduce.Goals as goal
 
 pub returns-then-m-to : goal.returns-then-m-to

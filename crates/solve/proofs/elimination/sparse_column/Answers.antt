@@ -17,4 +17,4 @@ returns c =
     let f = c.search-found in
     let t = rw c.row_start-p.ensures.0 at c.if-m-at.false in
     let e = rw (c.row_start-p.ensures.0, c.row_start-to.ensures.0) at c.swap_rows.ensures in
-    goes a.n a.k _ a.m.now (search rules) (search rules) f.ensures.0 f.ensures.1 t f.result.count f.new.1.0 _ _ f.ensures.4 e (search rules) c.clear_listed.ensures
+    goes a.n a.k _ a.m.now (search rules) (search rules) f.ensures.0 f.ensures.1 t f.result.count f.new.list _ _ f.ensures.4 e (search rules) c.clear_listed.ensures

@@ -1,10 +1,8 @@
-use mathlib.Core.Path.{◌≡◌, sym}
-use Prim.Native.Nat.{◌-◌, ◌≤◌}
+use mathlib.Core.Path.{sym}
 use native.Mathlib.Omega.{arith}
-use lib.ListN.{length, length-set}
-use Rattle.loops.specs.Loop.{turns}
+use lib.ListN.{length-set}
 use Rattle.loops.specs.Laws.Loop.{more, done}
-use Rattle.solve.specs.Solve.{swap_one, swapped}
+use Rattle.solve.specs.Solve.{swapped}
 use Rattle.solve.specs.Laws.Entries.{swap_same}
 use borrow.Author.Rules.{rules}
 use Rattle.solve.proofs.elimination.swap_rows.Goals as goal

@@ -1,12 +1,8 @@
-use mathlib.Core.Path.{◌≡◌, sym}
-use Prim.Native.Nat.{◌-◌, ◌≤◌}
-use native.Mathlib.Omega.{arith}
-use lib.ListN.{length, length-set}
+use mathlib.Core.Path.{◌≡◌}
+use Prim.Native.Nat.{◌≤◌}
+use lib.ListN.{length}
 use Rattle.loops.specs.Loop.{turns}
-use Rattle.loops.specs.Laws.Loop.{more, done}
-use Rattle.solve.specs.Solve.{swap_one, swapped}
-use Rattle.solve.specs.Laws.Entries.{swap_same}
-use borrow.Author.Rules.{rules}
+use Rattle.solve.specs.Solve.{swap_one}
 use Rattle.solve.proofs.elimination.swap_rows.Given as goal
 
 abbrev pub invariant-loop-i : goal.invariant-loop-i

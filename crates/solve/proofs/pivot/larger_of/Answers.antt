@@ -1,4 +1,3 @@
-use borrow.Author.Rules.{rules}
 use Rattle.solve.proofs.pivot.larger_of.Goals as goal
 
 pub returns-then-best-size : goal.returns-then-best-size

@@ -1,16 +1,15 @@
 use mathlib.Core.Path.{◌≡◌, ap, ◌∙◌}
 use mathlib.Core.Logic.{⊎_elim}
 use mathlib.Core.Bool.{true, false}
-use Prim.Native.Nat.{ℕ, ◌+◌, ◌-◌, ◌≤◌, ◌<◌}
+use Prim.Native.Nat.{ℕ, ◌+◌, ◌-◌, ◌<◌}
 use native.Mathlib.Omega.{arith}
 use lib.Ieee.{Float, lt}
-use Rattle.num.specs.Floats.{nought}
-use Rattle.loops.specs.Loop.{turns}
-use Rattle.solve.specs.Solve.{row_start, larger}
+use Rattle.solve.specs.Solve.{row_start}
 use Rattle.solve.specs.Inner.{pick, first_of}
 use Rattle.solve.proofs.Lanes.{Joined, started, one_row, two_rows, first_of_lem}
 use borrow.Author.Rules.{rules}
 use Rattle.solve.proofs.pivot.next_abs.Goals as goal
+use Rattle.solve.proofs.pivot.next_abs.Goals.{then-size-a, else-size-a, then-other_size-b, else-other_size-b}
 
 -- a branch that takes the row, and one that does not
 took : (r best : ℕ) (v big : Float) → lt big v ≡ true → ◌≡◌ {A = Float × ℕ} (v, r) (pick r v (big, best))
@@ -35,14 +34,14 @@ loop-i-preserved c =
     let u = c.size_at-a in
     let v = c.size_at-b in
     let first : ◌≡◌ {A = Float × ℕ} (c.if-size-a.size, c.if-size-a.row) (pick (a.k + l.i) u.result (l.size, l.row))
-    = ⊎_elim (λ t. rw (t.1, t.2) (took _ _ _ _ t.0.true)) (λ t. rw (t.1, t.2) (left _ _ _ _ t.0.left)) c.if-size-a.branch in
-    let second : ◌≡◌ {A = Float × ℕ} (c.if-other_size-b.other-size, c.if-other_size-b.other) (pick (a.k + l.i + 1) v.result (l.other-size, l.other))
-    = ⊎_elim (λ t. rw (t.1, t.2) (took _ _ _ _ t.0.true)) (λ t. rw (t.1, t.2) (left _ _ _ _ t.0.left)) c.if-other_size-b.branch in (
+    = elim c.if-size-a.branch [ then-size-a w ↦ rw (w.size-is, w.row-is) (took _ _ _ _ w.if-size-a.true) | else-size-a w ↦ rw (w.size-is, w.row-is) (left _ _ _ _ w.if-size-a.false) ] in
+    let second : ◌≡◌ {A = Float × ℕ} (c.if-other_size-b.other_size, c.if-other_size-b.other) (pick (a.k + l.i + 1) v.result (l.other_size, l.other))
+    = elim c.if-other_size-b.branch [ then-other_size-b w ↦ rw (w.other_size-is, w.other-is) (took _ _ _ _ w.if-other_size-b.true) | else-other_size-b w ↦ rw (w.other_size-is, w.other-is) (left _ _ _ _ w.if-other_size-b.false) ] in (
       search rules,
-      ⊎_elim (λ t. omega arith) (λ t. omega arith) c.if-size-a.branch,
-      ⊎_elim (λ t. omega arith) (λ t. omega arith) c.if-other_size-b.branch,
-      ⊎_elim (λ t. omega arith) (λ t. omega arith) c.if-size-a.branch,
-      ⊎_elim (λ t. omega arith) (λ t. omega arith) c.if-other_size-b.branch,
+      elim c.if-size-a.branch [ then-size-a w ↦ omega arith | else-size-a w ↦ omega arith ],
+      elim c.if-other_size-b.branch [ then-other_size-b w ↦ omega arith | else-other_size-b w ↦ omega arith ],
+      elim c.if-size-a.branch [ then-size-a w ↦ omega arith | else-size-a w ↦ omega arith ],
+      elim c.if-other_size-b.branch [ then-other_size-b w ↦ omega arith | else-other_size-b w ↦ omega arith ],
       rw (first, second) (two_rows (row_start a.n) a.k l.i a.m.now _ _ l.invariant.5 l.invariant.3 l.invariant.4 _ _ u.ensures v.ensures),
     )
 

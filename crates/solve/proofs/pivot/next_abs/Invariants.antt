@@ -1,15 +1,8 @@
-use mathlib.Core.Path.{◌≡◌, ap, ◌∙◌}
-use mathlib.Core.Logic.{⊎_elim}
-use mathlib.Core.Bool.{true, false}
-use Prim.Native.Nat.{ℕ, ◌+◌, ◌-◌, ◌≤◌, ◌<◌}
-use native.Mathlib.Omega.{arith}
-use lib.Ieee.{Float, lt}
+use Prim.Native.Nat.{◌+◌, ◌-◌, ◌≤◌, ◌<◌}
 use Rattle.num.specs.Floats.{nought}
 use Rattle.loops.specs.Loop.{turns}
 use Rattle.solve.specs.Solve.{row_start, larger}
-use Rattle.solve.specs.Inner.{pick, first_of}
-use Rattle.solve.proofs.Lanes.{Joined, started, one_row, two_rows, first_of_lem}
-use borrow.Author.Rules.{rules}
+use Rattle.solve.proofs.Lanes.{Joined}
 use Rattle.solve.proofs.pivot.next_abs.Given as goal
 
 abbrev pub invariant-loop-i : goal.invariant-loop-i

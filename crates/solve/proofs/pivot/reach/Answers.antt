@@ -1,8 +1,6 @@
 use mathlib.Core.Logic.{⊎_elim}
-use Prim.Native.Nat.{◌-◌, ◌≤◌, ◌<◌}
 use native.Mathlib.Nat.{eq-or-lt_of_le}
 use native.Mathlib.Omega.{arith}
-use Rattle.solve.specs.Inner.{Empty}
 use borrow.Author.Rules.{rules}
 use Rattle.solve.proofs.pivot.reach.Goals as goal
 

@@ -1,9 +1,5 @@
-use mathlib.Core.Logic.{⊎_elim}
-use Prim.Native.Nat.{◌-◌, ◌≤◌, ◌<◌}
-use native.Mathlib.Nat.{eq-or-lt_of_le}
-use native.Mathlib.Omega.{arith}
+use Prim.Native.Nat.{◌≤◌, ◌<◌}
 use Rattle.solve.specs.Inner.{Empty}
-use borrow.Author.Rules.{rules}
 use Rattle.solve.proofs.pivot.reach.Given as goal
 
 abbrev pub invariant-loop-r : goal.invariant-loop-r

@@ -1,19 +1,17 @@
-use mathlib.Core.Path.{◌≡◌, refl, ap, ◌∙◌}
-use mathlib.Core.Logic.{⊎_elim}
+use mathlib.Core.Path.{◌≡◌, refl, ap}
 use mathlib.Core.Bool.{true}
-use Prim.Native.Nat.{ℕ, ◌+◌, ◌-◌, ◌≤◌, ◌<◌}
+use Prim.Native.Nat.{ℕ, ◌+◌, ◌<◌}
 use native.Mathlib.Omega.{arith}
 use lib.ListN.{length, length-set}
 use lib.Ieee.{Float, eq}
 use Rattle.num.specs.Floats.{nought}
-use Rattle.loops.specs.Loop.{turns}
 use Rattle.num.specs.Lists.{«at»}
-use Rattle.solve.specs.Solve.{row_start, larger, index_of_next_abs}
-use Rattle.solve.specs.Inner.{Rows, Lists}
+use Rattle.solve.specs.Solve.{row_start, index_of_next_abs}
 use Rattle.solve.proofs.Search.{not_ne, best_first, best_next, best_same, best_row, rows_longer}
 use Rattle.solve.proofs.Listed.{list_starts, list_same, list_longer}
 use borrow.Author.Rules.{rules}
 use Rattle.solve.proofs.pivot.search.Goals as goal
+use Rattle.solve.proofs.pivot.search.Goals.{then-x, else-x}
 
 pub loop-r-init : goal.loop-r-init
 loop-r-init c =
@@ -27,31 +25,31 @@ loop-r-preserved c =
     let a = c.args in
     let start = c.row_start-in-loop-r.ensures.0 in
     let room : l.count < length l.list = omega arith in
-    ⊎_elim
-    (λ u.
-    let e = rw start at u.1.ensures in (
-      search rules,
-      search rules,
-      rw u.4 (omega arith),
-      rw u.2 (simp length-set l.invariant.3),
-      rw u.3 (best_row a.n l.r _ _ _ e l.invariant.4 (omega arith)),
-      rw u.3 (best_next (row_start a.n) a.k l.r a.m.now _ (omega arith) l.invariant.5 _ e),
-      rw (u.4, u.2) (rows_longer a.n l.count l.r l.list l.invariant.6 room (omega arith)),
-      rw (u.4, u.2) (list_longer a.n a.k l.list a.m.now l.r l.count (omega arith) (omega arith) l.invariant.7 room),
-    ))
-    (λ u.
-    let y : eq («at» a.m.now (c.row_start-in-loop-r.result + a.k)) nought ≡ true = not_ne _ u.0.left in
-    let z = rw start at y in (
-      search rules,
-      search rules,
-      rw u.3 (omega arith),
-      rw u.1 l.invariant.3,
-      rw u.2 l.invariant.4,
-      rw u.2 (best_same (row_start a.n) a.k l.r a.m.now _ (omega arith) l.invariant.5 z),
-      rw (u.3, u.1) l.invariant.6,
-      rw (u.3, u.1) (list_same a.n a.k l.list a.m.now l.r l.count (omega arith) (omega arith) l.invariant.7 z),
-    ))
-    c.if-x.branch
+    elim c.if-x.branch [
+      | then-x w ↦
+          let e = rw start at w.larger_of-best-then-x.ensures in (
+            search rules,
+            search rules,
+            rw w.count-is (omega arith),
+            rw w.list-is (simp length-set l.invariant.3),
+            rw w.best-is (best_row a.n l.r _ _ _ e l.invariant.4 (omega arith)),
+            rw w.best-is (best_next (row_start a.n) a.k l.r a.m.now _ (omega arith) l.invariant.5 _ e),
+            rw (w.count-is, w.list-is) (rows_longer a.n l.count l.r l.list l.invariant.6 room (omega arith)),
+            rw (w.count-is, w.list-is) (list_longer a.n a.k l.list a.m.now l.r l.count (omega arith) (omega arith) l.invariant.7 room),
+          )
+      | else-x w ↦
+          let y : eq («at» a.m.now (c.row_start-in-loop-r.result + a.k)) nought ≡ true = not_ne _ w.if-x.false in
+          let z = rw start at y in (
+            search rules,
+            search rules,
+            rw w.count-is (omega arith),
+            rw w.list-is l.invariant.3,
+            rw w.best-is l.invariant.4,
+            rw w.best-is (best_same (row_start a.n) a.k l.r a.m.now _ (omega arith) l.invariant.5 z),
+            rw (w.count-is, w.list-is) l.invariant.6,
+            rw (w.count-is, w.list-is) (list_same a.n a.k l.list a.m.now l.r l.count (omega arith) (omega arith) l.invariant.7 z),
+          )
+    ]
 
 pub returns : goal.returns
 unfolding index_of_next_abs

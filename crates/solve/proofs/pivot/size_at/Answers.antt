@@ -1,4 +1,3 @@
-use borrow.Author.Rules.{rules}
 use Rattle.solve.proofs.pivot.size_at.Goals as goal
 
 pub returns : goal.returns

@@ -1,7 +1,6 @@
 use mathlib.Core.Path.{refl}
 use Prim.Native.Nat.{◌+◌}
 use native.Mathlib.Omega.{arith}
-use borrow.Author.Rules.{rules}
 use Rattle.solve.specs.Laws.Entries.{row_end}
 use Rattle.solve.proofs.Sizes.{small}
 use Rattle.solve.proofs.rows.row_start.Goals as goal

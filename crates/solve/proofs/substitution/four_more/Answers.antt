@@ -1,6 +1,5 @@
 use mathlib.Core.Path.{refl}
 use Rattle.solve.specs.Inner.{four_more}
-use borrow.Author.Rules.{rules}
 use Rattle.solve.proofs.substitution.four_more.Goals as goal
 
 pub returns : goal.returns

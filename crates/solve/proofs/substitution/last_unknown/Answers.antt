@@ -1,6 +1,5 @@
 use mathlib.Core.Path.{sym, ◌∙◌}
 use Rattle.solve.specs.Solve.{last_unknown}
-use borrow.Author.Rules.{rules}
 use Rattle.solve.proofs.substitution.last_unknown.Goals as goal
 
 pub returns-then-finite : goal.returns-then-finite

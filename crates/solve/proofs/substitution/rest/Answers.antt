@@ -1,9 +1,5 @@
-use mathlib.Core.Path.{◌≡◌}
-use Prim.Native.Nat.{◌-◌, ◌≤◌}
-use Rattle.num.specs.Floats.{nought}
-use Rattle.loops.specs.Loop.{turns}
 use Rattle.loops.specs.Laws.Loop.{more, done}
-use Rattle.solve.specs.Solve.{row_start, add_one, dot}
+use Rattle.solve.specs.Solve.{dot}
 use borrow.Author.Rules.{rules}
 use Rattle.solve.proofs.substitution.rest.Goals as goal
 

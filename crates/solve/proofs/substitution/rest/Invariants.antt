@@ -1,10 +1,8 @@
 use mathlib.Core.Path.{◌≡◌}
-use Prim.Native.Nat.{◌-◌, ◌≤◌}
+use Prim.Native.Nat.{◌≤◌}
 use Rattle.num.specs.Floats.{nought}
 use Rattle.loops.specs.Loop.{turns}
-use Rattle.loops.specs.Laws.Loop.{more, done}
-use Rattle.solve.specs.Solve.{row_start, add_one, dot}
-use borrow.Author.Rules.{rules}
+use Rattle.solve.specs.Solve.{row_start, add_one}
 use Rattle.solve.proofs.substitution.rest.Given as goal
 
 abbrev pub invariant-loop-j : goal.invariant-loop-j

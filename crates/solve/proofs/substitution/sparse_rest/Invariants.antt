@@ -1,12 +1,8 @@
-use mathlib.Core.Path.{◌≡◌, sym, ◌∙◌}
-use mathlib.Core.Logic.{⊎_elim}
+use mathlib.Core.Path.{◌≡◌}
 use Prim.Native.Nat.{◌+◌, ◌-◌, ◌≤◌}
-use borrow.Author.Tests.{not-false}
 use Rattle.num.specs.Floats.{nought}
 use Rattle.loops.specs.Loop.{turns}
 use Rattle.solve.specs.Solve.{row_start, add_one}
-use Rattle.solve.proofs.Terms.{four_added, four_skipped}
-use borrow.Author.Rules.{rules}
 use Rattle.solve.proofs.substitution.sparse_rest.Given as goal
 
 abbrev pub invariant-loop-j : goal.invariant-loop-j

@@ -1,6 +1,5 @@
 use mathlib.Core.Path.{◌≡◌, refl, sym, ◌∙◌}
-use mathlib.Core.Bool.{true}
-use Prim.Native.Nat.{◌+◌, ◌-◌, ◌≤◌, ◌<◌}
+use Prim.Native.Nat.{◌+◌, ◌-◌, ◌<◌}
 use native.Mathlib.Omega.{arith}
 use denote.Floats.{passes}
 use lib.ListN.{length, set, length-set}
@@ -9,11 +8,8 @@ use lib.Ieee.{nan}
 use lib.Ieee.Bits.{is_true}
 use lib.Ieee.Fits.{and_l, and_r}
 use Rattle.num.specs.Floats.{nought}
-use Rattle.loops.specs.Loop.{down}
 use Rattle.loops.specs.Laws.Loop.{less}
-use Rattle.num.specs.Lists.{«at»}
 use Rattle.solve.specs.Solve.{row_start, back_one}
-use Rattle.solve.specs.Inner.{AllFinite}
 use Rattle.solve.proofs.Unknowns.{any_vector, last_finite, more_finite}
 use borrow.Author.Rules.{rules}
 use Rattle.solve.proofs.substitution.substitute.Goals as goal

@@ -1,5 +1,4 @@
 use Rattle.solve.specs.Solve.{unknown}
-use borrow.Author.Rules.{rules}
 use Rattle.solve.proofs.substitution.unknown.Goals as goal
 
 pub returns : goal.returns

@@ -1,7 +1,6 @@
 use Prim.Native.Nat.{◌-◌}
 use native.Mathlib.Omega.{arith}
 use Rattle.solve.specs.Laws.Entries.{less_join}
-use borrow.Author.Rules.{rules}
 use Rattle.solve.proofs.update.less_below_four.Goals as goal
 
 pub returns : goal.returns

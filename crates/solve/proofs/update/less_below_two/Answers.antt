@@ -1,7 +1,6 @@
 use mathlib.Core.Path.{◌≡◌}
 use native.Mathlib.Omega.{arith}
 use Rattle.solve.specs.Solve.{less_scaled}
-use borrow.Author.Rules.{rules}
 use Rattle.solve.proofs.update.less_below_two.Goals as goal
 
 pub returns-then-len-eq0 : goal.returns-then-len-eq0

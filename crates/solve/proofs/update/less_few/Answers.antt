@@ -2,7 +2,6 @@ use mathlib.Core.Path.{refl}
 use Prim.Native.Nat.{◌-◌}
 use native.Mathlib.Omega.{arith}
 use Rattle.solve.specs.Laws.Entries.{less_join}
-use borrow.Author.Rules.{rules}
 use Rattle.solve.proofs.update.less_few.Goals as goal
 
 pub returns : goal.returns

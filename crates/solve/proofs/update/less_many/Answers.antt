@@ -1,9 +1,5 @@
-use mathlib.Core.Path.{◌≡◌}
-use Prim.Native.Nat.{◌-◌, ◌≤◌}
-use lib.ListN.{length}
-use Rattle.loops.specs.Loop.{turns}
 use Rattle.loops.specs.Laws.Loop.{more, done}
-use Rattle.solve.specs.Solve.{less_one, less_scaled}
+use Rattle.solve.specs.Solve.{less_scaled}
 use borrow.Author.Rules.{rules}
 use Rattle.solve.proofs.update.less_many.Goals as goal
 

@@ -1,10 +1,8 @@
 use mathlib.Core.Path.{◌≡◌}
-use Prim.Native.Nat.{◌-◌, ◌≤◌}
+use Prim.Native.Nat.{◌≤◌}
 use lib.ListN.{length}
 use Rattle.loops.specs.Loop.{turns}
-use Rattle.loops.specs.Laws.Loop.{more, done}
-use Rattle.solve.specs.Solve.{less_one, less_scaled}
-use borrow.Author.Rules.{rules}
+use Rattle.solve.specs.Solve.{less_one}
 use Rattle.solve.proofs.update.less_many.Given as goal
 
 abbrev pub invariant-loop-i : goal.invariant-loop-i

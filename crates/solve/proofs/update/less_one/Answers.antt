@@ -1,6 +1,5 @@
 use native.Mathlib.Nat.{add-zero}
 use Rattle.solve.specs.Solve.{less_scaled}
-use borrow.Author.Rules.{rules}
 use Rattle.solve.proofs.update.less_one.Goals as goal
 
 pub returns : goal.returns

@@ -1,7 +1,5 @@
 use mathlib.Core.Path.{refl}
-use Prim.Native.Nat.{◌-◌}
 use Rattle.solve.specs.Laws.Entries.{less_join}
-use borrow.Author.Rules.{rules}
 use Rattle.solve.proofs.update.less_two.Goals as goal
 
 pub returns : goal.returns
