@@ -1,5 +1,4 @@
 -- `exact::add_term` meets its contract.
-use Rattle.std.proofs.Common.{rules}
 use Rattle.exact.proofs.Room.{roomy}
 use Rattle.exact.proofs.Terms.{alike, different}
 use Rattle.exact.proofs.add_term.Goals as goal

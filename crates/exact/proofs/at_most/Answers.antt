@@ -1,5 +1,5 @@
 -- `exact::at_most` meets its contract. The invariant: from i up the two rows stand for the same.
-use Rattle.std.proofs.Common.{◌≡◌, ℕ, drop, sym, ◌∙◌, subst, le_of_lt, arith, rules, le-leb}
+use Rattle.std.proofs.Common.{◌≡◌, ℕ, drop, sym, ◌∙◌, subst, le_of_lt, arith, le-leb}
 use borrow.Author.Tests.{lt-leb}
 use Rattle.exact.specs.Limbs.{value}
 use Rattle.exact.proofs.Order.{none_past, first_less, second_less, same}

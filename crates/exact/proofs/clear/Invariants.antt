@@ -1,7 +1,4 @@
-use Rattle.std.proofs.Common.{◌≡◌, ℕ, ◌-◌, ◌≤◌, List, [], ◌++◌, length, drop, replicate, ◌∙◌, append-nil, arith, drop_of_length-le, rules}
-use borrow.Author.Fill.{fill_none, fill_more}
-use Rattle.exact.specs.Limbs.{limbs_of}
-use Rattle.exact.specs.Laws.Limbs.{zeros}
+use Rattle.std.proofs.Common.{◌≡◌, ◌≤◌, ◌++◌, length, drop, replicate}
 use Rattle.exact.proofs.clear.Given as goal
 
 abbrev pub invariant-loop-i : goal.invariant-loop-i

@@ -1,5 +1,4 @@
 -- `exact::has_room` meets its contract.
-use Rattle.std.proofs.Common.{rules}
 use Rattle.exact.proofs.Room.{top_limb}
 use Rattle.exact.proofs.has_room.Goals as goal
 

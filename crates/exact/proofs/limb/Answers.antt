@@ -1,5 +1,5 @@
 -- `exact::limb` meets its contract.
-use Rattle.std.proofs.Common.{sym, rules}
+use Rattle.std.proofs.Common.{sym}
 use lib.ListN.{get_or-eq_default}
 use Rattle.exact.proofs.limb.Goals as goal
 

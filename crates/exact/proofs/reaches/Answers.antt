@@ -1,5 +1,5 @@
 -- `exact::reaches` meets its contract.
-use Rattle.std.proofs.Common.{ℕ, ◌+◌, ◌*◌, T, leb, ap, ◌∙◌, rules}
+use Rattle.std.proofs.Common.{ℕ, ◌+◌, ◌*◌, T, leb, ap, ◌∙◌}
 use lib.Count.{count_trailing_zeros}
 use lib.Ieee.{of_bits, of_fields, odd}
 use lib.Ieee.Scale.{finite}

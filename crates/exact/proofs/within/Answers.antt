@@ -1,7 +1,6 @@
 -- `exact::within` meets its contract.
-use Rattle.std.proofs.Common.{sym, ◌∙◌, arith, rules, eq-eqb, ne_eqb}
+use Rattle.std.proofs.Common.{sym, ◌∙◌, arith, eq-eqb, ne_eqb}
 use denote.Floats.{passes}
-use borrow.Author.Tests.{not-true, not-false}
 use Rattle.exact.specs.Kept.{within_of}
 use Rattle.exact.proofs.within.Goals as goal
 
@@ -15,18 +14,18 @@ returns-then-minus-ne-SUM_LIMBS c = rw (eq-eqb _ _ c.if-plus-ne-SUM_LIMBS.false,
 
 pub returns-then-not-finite : goal.returns-then-not-finite
 unfolding within_of
-returns-then-not-finite c = rw (eq-eqb _ _ c.if-plus-ne-SUM_LIMBS.false, eq-eqb _ _ c.if-minus-ne-SUM_LIMBS.false, sym c.finite.ensures ∙ not-true _ c.if-not-finite.true)
+returns-then-not-finite c = rw (eq-eqb _ _ c.if-plus-ne-SUM_LIMBS.false, eq-eqb _ _ c.if-minus-ne-SUM_LIMBS.false, sym c.finite.ensures ∙ c.if-not-finite.true)
 
 pub reaches-requires : goal.reaches-requires
-reaches-requires c = (omega arith, passes _ (sym c.finite.ensures ∙ not-false _ c.if-not-finite.false))
+reaches-requires c = (omega arith, passes _ (sym c.finite.ensures ∙ c.if-not-finite.false))
 
 pub returns-then-not-reaches : goal.returns-then-not-reaches
 unfolding within_of
-returns-then-not-reaches c = rw (eq-eqb _ _ c.if-plus-ne-SUM_LIMBS.false, eq-eqb _ _ c.if-minus-ne-SUM_LIMBS.false, sym c.finite.ensures ∙ not-false _ c.if-not-finite.false, sym c.reaches.ensures ∙ not-true _ c.if-not-reaches.true)
+returns-then-not-reaches c = rw (eq-eqb _ _ c.if-plus-ne-SUM_LIMBS.false, eq-eqb _ _ c.if-minus-ne-SUM_LIMBS.false, sym c.finite.ensures ∙ c.if-not-finite.false, sym c.reaches.ensures ∙ c.if-not-reaches.true)
 
 pub reaches-requires-2 : goal.reaches-requires-2
-reaches-requires-2 c = (omega arith, passes _ (sym c.finite.ensures ∙ not-false _ c.if-not-finite.false))
+reaches-requires-2 c = (omega arith, passes _ (sym c.finite.ensures ∙ c.if-not-finite.false))
 
 pub returns : goal.returns
 unfolding within_of
-returns c = rw (eq-eqb _ _ c.if-plus-ne-SUM_LIMBS.false, eq-eqb _ _ c.if-minus-ne-SUM_LIMBS.false, sym c.finite.ensures ∙ not-false _ c.if-not-finite.false, sym c.reaches.ensures ∙ not-false _ c.if-not-reaches.false) c.reaches-2.ensures
+returns c = rw (eq-eqb _ _ c.if-plus-ne-SUM_LIMBS.false, eq-eqb _ _ c.if-minus-ne-SUM_LIMBS.false, sym c.finite.ensures ∙ c.if-not-finite.false, sym c.reaches.ensures ∙ c.if-not-reaches.false) c.reaches-2.ensures

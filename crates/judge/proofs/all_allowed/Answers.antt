@@ -17,12 +17,12 @@ loop-i-init c = (search rules, refl)
 pub returns-then-not-allowed : goal.returns-then-not-allowed
 returns-then-not-allowed c =
     let l = c.loop-i in
-    sym (every_not (allowed c.args.tolerance) nan c.args.s.now l.i (omega arith) (sym c.allowed.ensures ∙ not-true _ c.if-not-allowed.true)) ∙ l.invariant.1
+    sym (every_not (allowed c.args.tolerance) nan c.args.s.now l.i (omega arith) (sym c.allowed.ensures ∙ c.if-not-allowed.true)) ∙ l.invariant.1
 
 pub loop-i-preserved : goal.loop-i-preserved
 loop-i-preserved c =
     let l = c.loop-i in
-    (omega arith, sym (every_next (allowed c.args.tolerance) nan c.args.s.now l.i (omega arith) (sym c.allowed.ensures ∙ not-false _ c.if-not-allowed.false)) ∙ l.invariant.1)
+    (omega arith, sym (every_next (allowed c.args.tolerance) nan c.args.s.now l.i (omega arith) (sym c.allowed.ensures ∙ c.if-not-allowed.false)) ∙ l.invariant.1)
 
 pub returns : goal.returns
 returns c =

@@ -26,12 +26,12 @@ row_holds-requires c =
 pub returns-then-not-row_holds : goal.returns-then-not-row_holds
 returns-then-not-row_holds c =
     let l = c.loop-i in
-    sym (failing (holds c.args.n c.args.m.now c.args.x.now c.args.t.now) c.args.n l.i (omega arith) (sym c.row_holds.ensures ∙ not-true _ c.if-not-row_holds.true)) ∙ l.invariant.1
+    sym (failing (holds c.args.n c.args.m.now c.args.x.now c.args.t.now) c.args.n l.i (omega arith) (sym c.row_holds.ensures ∙ c.if-not-row_holds.true)) ∙ l.invariant.1
 
 pub loop-i-preserved : goal.loop-i-preserved
 loop-i-preserved c =
     let l = c.loop-i in
-    (omega arith, sym (holding (holds c.args.n c.args.m.now c.args.x.now c.args.t.now) c.args.n l.i (omega arith) (sym c.row_holds.ensures ∙ not-false _ c.if-not-row_holds.false)) ∙ l.invariant.1)
+    (omega arith, sym (holding (holds c.args.n c.args.m.now c.args.x.now c.args.t.now) c.args.n l.i (omega arith) (sym c.row_holds.ensures ∙ c.if-not-row_holds.false)) ∙ l.invariant.1)
 
 pub returns : goal.returns
 returns c =

@@ -43,19 +43,19 @@ pub slice_bounds-all_allowed-end : goal.slice_bounds-all_allowed-end
 slice_bounds-all_allowed-end c = let a = c.args in sym (length-take-le (a.n * (a.n + 1)) a.m.now (omega arith))
 
 pub returns-then-not-all_allowed : goal.returns-then-not-all_allowed
-returns-then-not-all_allowed c = rw (decided c.before.before.before, sym c.all_allowed.ensures ∙ not-true _ c.if-not-all_allowed.true)
+returns-then-not-all_allowed c = rw (decided c.before.before.before, sym c.all_allowed.ensures ∙ c.if-not-all_allowed.true)
 
 pub slice_bounds-all_allowed-end-2 : goal.slice_bounds-all_allowed-end-2
 slice_bounds-all_allowed-end-2 c = let a = c.args in sym (length-take-le a.n a.x.now (omega arith))
 
 pub returns-then-not-all_allowed-2 : goal.returns-then-not-all_allowed-2
-returns-then-not-all_allowed-2 c = rw (decided c.before.before.before.before.before.before, sym c.all_allowed.ensures ∙ not-false _ c.if-not-all_allowed.false, sym c.all_allowed-2.ensures ∙ not-true _ c.if-not-all_allowed-2.true)
+returns-then-not-all_allowed-2 c = rw (decided c.before.before.before.before.before.before, sym c.all_allowed.ensures ∙ c.if-not-all_allowed.false, sym c.all_allowed-2.ensures ∙ c.if-not-all_allowed-2.true)
 
 pub slice_bounds-all_allowed-end-3 : goal.slice_bounds-all_allowed-end-3
 slice_bounds-all_allowed-end-3 c = let a = c.args in sym (length-take-le a.n a.t.now (omega arith))
 
 pub returns-then-not-all_allowed-3 : goal.returns-then-not-all_allowed-3
-returns-then-not-all_allowed-3 c = rw (decided c.before.before.before.before.before.before.before.before.before, sym c.all_allowed.ensures ∙ not-false _ c.if-not-all_allowed.false, sym c.all_allowed-2.ensures ∙ not-false _ c.if-not-all_allowed-2.false, sym c.all_allowed-3.ensures ∙ not-true _ c.if-not-all_allowed-3.true)
+returns-then-not-all_allowed-3 c = rw (decided c.before.before.before.before.before.before.before.before.before, sym c.all_allowed.ensures ∙ c.if-not-all_allowed.false, sym c.all_allowed-2.ensures ∙ c.if-not-all_allowed-2.false, sym c.all_allowed-3.ensures ∙ c.if-not-all_allowed-3.true)
 
 pub returns : goal.returns
-returns c = rw (decided c.before.before.before.before.before.before.before.before.before, sym c.all_allowed.ensures ∙ not-false _ c.if-not-all_allowed.false, sym c.all_allowed-2.ensures ∙ not-false _ c.if-not-all_allowed-2.false, sym c.all_allowed-3.ensures ∙ not-false _ c.if-not-all_allowed-3.false)
+returns c = rw (decided c.before.before.before.before.before.before.before.before.before, sym c.all_allowed.ensures ∙ c.if-not-all_allowed.false, sym c.all_allowed-2.ensures ∙ c.if-not-all_allowed-2.false, sym c.all_allowed-3.ensures ∙ c.if-not-all_allowed-3.false)

@@ -1,24 +1,25 @@
 -- `exact::limbs::carry_on` meets its contract. The invariant: the limbs with the carry at i are what is to come out.
-use Rattle.std.proofs.Common.{◌≡◌, ℕ, ◌+◌, ◌-◌, ◌*◌, ◌^◌, ◌<◌, length, sym, ap, ◌∙◌, subst, zero-add, zero-mul, arith, rules}
+use Rattle.std.proofs.Common.{◌≡◌, ℕ, ◌*◌, ◌^◌, ◌<◌, length, sym, ap, ◌∙◌, subst, zero-add, zero-mul, arith}
 use Rattle.exact.specs.Limbs.{value}
 use Rattle.exact.proofs.Carry.{inside}
 use Rattle.exact.proofs.limbs.carry_on.Goals as goal
+use Rattle.exact.proofs.limbs.carry_on.Goals.{In-loop-left}
 
 -- with a carry left, i is within the limbs
-in-limbs : (c : goal.In-loop-left) → c.loop-left.i < length c.args.limbs.now
+in-limbs : (c : In-loop-left) → c.loop-left.i < length c.args.limbs.now
 in-limbs c =
     let l = c.loop-left in
     inside (value l.limbs) l.left l.i (length c.args.limbs.now) (omega arith)
     (subst (λ (n : ℕ). n < 2 ^ (64 * length c.args.limbs.now)) (sym l.invariant.1) c.requires)
 
 pub add_word-left-requires : goal.add_word-left-requires
-add_word-left-requires c = omega (arith, in-limbs c.before)
+add_word-left-requires c = omega (arith, in-limbs (goal.at.add_word-left-requires c).In-loop-left)
 
 pub overflow_add-i : goal.overflow_add-i
-overflow_add-i c = omega (arith, in-limbs c.before.before.before.before)
+overflow_add-i c = omega (arith, in-limbs (goal.at.overflow_add-i c).In-loop-left)
 
 pub loop-left-smaller : goal.loop-left-smaller
-loop-left-smaller c = omega (arith, in-limbs c.before.before.before.before)
+loop-left-smaller c = omega (arith, in-limbs (goal.at.loop-left-smaller c).In-loop-left)
 
 pub loop-left-preserved : goal.loop-left-preserved
 loop-left-preserved c =

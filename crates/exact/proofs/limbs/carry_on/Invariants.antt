@@ -1,6 +1,5 @@
-use Rattle.std.proofs.Common.{◌≡◌, ℕ, ◌+◌, ◌-◌, ◌*◌, ◌^◌, ◌<◌, length, sym, ap, ◌∙◌, subst, zero-add, zero-mul, arith, rules}
+use Rattle.std.proofs.Common.{◌≡◌, ◌+◌, ◌-◌, ◌*◌, ◌^◌, ◌<◌, length}
 use Rattle.exact.specs.Limbs.{value}
-use Rattle.exact.proofs.Carry.{inside}
 use Rattle.exact.proofs.limbs.carry_on.Given as goal
 
 abbrev pub invariant-loop-left : goal.invariant-loop-left

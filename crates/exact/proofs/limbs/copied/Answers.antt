@@ -1,6 +1,6 @@
 -- `exact::limbs::copied` meets its contract. The invariant: the limbs before i are copied, the others are still 0.
 -- one limb more is copied
-use Rattle.std.proofs.Common.{◌≡◌, ℕ, zero, suc, ◌+◌, ◌-◌, ◌*◌, ◌^◌, ◌<◌, ◌≤◌, List, [], ◌∷◌, ◌++◌, length, get_or, take, drop, set, refl, ap, ◌∙◌, le_of_suc-le-suc, not-suc-le-zero, add-one, arith, take_all, rules}
+use Rattle.std.proofs.Common.{◌≡◌, ℕ, zero, suc, ◌+◌, ◌*◌, ◌^◌, ◌<◌, List, [], ◌∷◌, ◌++◌, length, get_or, take, drop, set, refl, ap, ◌∙◌, le_of_suc-le-suc, not-suc-le-zero, add-one, arith, take_all, rules}
 use Rattle.exact.specs.Limbs.{value, limbs_of}
 use Rattle.exact.specs.Laws.Limbs.{length_limbs}
 use Rattle.exact.proofs.limbs.copied.Goals as goal

@@ -1,6 +1,4 @@
-use Rattle.std.proofs.Common.{◌≡◌, ℕ, zero, suc, ◌+◌, ◌-◌, ◌*◌, ◌^◌, ◌<◌, ◌≤◌, List, [], ◌∷◌, ◌++◌, length, get_or, take, drop, set, refl, ap, ◌∙◌, le_of_suc-le-suc, not-suc-le-zero, add-one, arith, take_all, rules}
-use Rattle.exact.specs.Limbs.{value, limbs_of}
-use Rattle.exact.specs.Laws.Limbs.{length_limbs}
+use Rattle.std.proofs.Common.{◌≡◌, ◌≤◌, ◌++◌, length, take, drop}
 use Rattle.exact.proofs.limbs.copied.Given as goal
 
 abbrev pub invariant-loop-i : goal.invariant-loop-i

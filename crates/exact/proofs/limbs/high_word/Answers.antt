@@ -1,5 +1,4 @@
 -- `exact::limbs::high_word` meets its contract.
-use Rattle.std.proofs.Common.{rules}
 use Rattle.exact.proofs.Words.{high_word}
 use Rattle.exact.proofs.limbs.high_word.Goals as goal
 

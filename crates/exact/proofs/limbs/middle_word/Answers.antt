@@ -1,5 +1,5 @@
 -- `exact::limbs::middle_word` meets its contract.
-use Rattle.std.proofs.Common.{◌+◌, arith, rules}
+use Rattle.std.proofs.Common.{◌+◌, arith}
 use Rattle.exact.proofs.Words.{shared}
 use Rattle.exact.proofs.limbs.middle_word.Goals as goal
 

@@ -1,5 +1,5 @@
 -- `exact::limbs::product` meets its contract.
-use Rattle.std.proofs.Common.{refl, arith, rules}
+use Rattle.std.proofs.Common.{refl, arith}
 use Rattle.exact.proofs.Words.{low_low, high_low, high_high, joined}
 use Rattle.exact.proofs.limbs.product.Goals as goal
 

@@ -1,5 +1,5 @@
 -- `exact::parts::add_size` meets its contract.
-use Rattle.std.proofs.Common.{ℕ, ◌+◌, ap, ◌∙◌, arith, rules}
+use Rattle.std.proofs.Common.{ℕ, ◌+◌, ap, ◌∙◌, arith}
 use Rattle.exact.specs.Limbs.{value}
 use Rattle.exact.proofs.Room.{placed, has_place}
 use Rattle.exact.proofs.parts.add_size.Goals as goal

@@ -1,6 +1,6 @@
 -- `exact::parts::parts_of` meets its contract.
 -- a finite float is a number
-use Rattle.std.proofs.Common.{◌≡◌, ℕ, suc, ◌-◌, ◌/◌, ◌%◌, ◌^◌, ◌<◌, not, T, arith, rules}
+use Rattle.std.proofs.Common.{◌≡◌, ℕ, suc, ◌-◌, ◌/◌, ◌%◌, ◌^◌, ◌<◌, not, T, arith}
 use denote.Floats.{passes}
 use lib.Ieee.{Float, nan, inf, fin, binary64, to_bits, fits, is_nan}
 use lib.Ieee.Scale.{finite}
