@@ -2,12 +2,12 @@
 use borrow.Author.Rules.{rules}
 use mathlib.Core.Path.{◌≡◌, sym, ap, ◌∙◌}
 use mathlib.Core.Bool.{Bool, true, false, not, ◌&&◌, and-true, and-false}
-use mathlib.Core.Logic.{⊎_elim}
 use lib.Ieee.{Float, lt}
 use lib.Ieee.Scale.{finite}
 use Rattle.num.specs.Floats.{nought}
 use Rattle.judge.specs.Judge.{allowed}
 use Rattle.judge.proofs.allowed.Goals as goal
+use Rattle.judge.proofs.allowed.Goals.{then-tolerance+else-x, else-tolerance}
 
 below : (x : Float) (b : Bool) → b ≡ true → lt x nought ≡ true → false ≡ allowed b x
 below x b e f = rw e (sym (ap (λ (c : Bool). finite x && not c) f ∙ and-false (finite x)))
@@ -25,4 +25,7 @@ pub returns : goal.returns
 returns c =
     let x = c.args.x in
     let b = c.args.tolerance in
-    c.finite.ensures ∙ ⊎_elim (λ u. not-below x b u.0.true u.1.left) (λ u. plain x b u.left) c.if-tolerance.branch
+    elim c.if-tolerance.branch [
+      then-tolerance+else-x w ↦ c.finite.ensures ∙ not-below x b w.if-tolerance.true w.if-x.false
+    | else-tolerance w ↦ c.finite.ensures ∙ plain x b w.if-tolerance.false
+    ]

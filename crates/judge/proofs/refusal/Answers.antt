@@ -12,8 +12,9 @@ use Rattle.num.specs.Lists.{every}
 use Rattle.judge.specs.Judge.{allowed, judge_refusal}
 use Rattle.judge.proofs.Places.{size, numbers_decide}
 use Rattle.judge.proofs.refusal.Goals as goal
+use Rattle.judge.proofs.refusal.Goals.{Else-t-n}
 
-decided : (c : goal.Else-t-n) → judge_refusal c.args.n c.args.m.now c.args.x.now c.args.t.now ≡ cond (every (allowed false) (take (c.args.n * (c.args.n + 1)) c.args.m.now) && (every (allowed false) (take c.args.n c.args.x.now) && every (allowed true) (take c.args.n c.args.t.now))) 0 11
+decided : (c : Else-t-n) → judge_refusal c.args.n c.args.m.now c.args.x.now c.args.t.now ≡ cond (every (allowed false) (take (c.args.n * (c.args.n + 1)) c.args.m.now) && (every (allowed false) (take c.args.n c.args.x.now) && every (allowed true) (take c.args.n c.args.t.now))) 0 11
 decided c = numbers_decide c.args.n c.args.m.now c.args.x.now c.args.t.now c.if-n-eq0.false c.if-n-gt-UNKNOWNS.false c.if-m-size.false c.if-x-n.false c.if-t-n.false
 
 pub returns-then-n-eq0 : goal.returns-then-n-eq0
@@ -43,19 +44,19 @@ pub slice_bounds-all_allowed-end : goal.slice_bounds-all_allowed-end
 slice_bounds-all_allowed-end c = let a = c.args in sym (length-take-le (a.n * (a.n + 1)) a.m.now (omega arith))
 
 pub returns-then-not-all_allowed : goal.returns-then-not-all_allowed
-returns-then-not-all_allowed c = rw (decided c.before.before.before, sym c.all_allowed.ensures ∙ c.if-not-all_allowed.true)
+returns-then-not-all_allowed c = rw (decided (goal.at.returns-then-not-all_allowed c).Else-t-n, sym c.all_allowed.ensures ∙ c.if-not-all_allowed.true)
 
 pub slice_bounds-all_allowed-end-2 : goal.slice_bounds-all_allowed-end-2
 slice_bounds-all_allowed-end-2 c = let a = c.args in sym (length-take-le a.n a.x.now (omega arith))
 
 pub returns-then-not-all_allowed-2 : goal.returns-then-not-all_allowed-2
-returns-then-not-all_allowed-2 c = rw (decided c.before.before.before.before.before.before, sym c.all_allowed.ensures ∙ c.if-not-all_allowed.false, sym c.all_allowed-2.ensures ∙ c.if-not-all_allowed-2.true)
+returns-then-not-all_allowed-2 c = rw (decided (goal.at.returns-then-not-all_allowed-2 c).Else-t-n, sym c.all_allowed.ensures ∙ c.if-not-all_allowed.false, sym c.all_allowed-2.ensures ∙ c.if-not-all_allowed-2.true)
 
 pub slice_bounds-all_allowed-end-3 : goal.slice_bounds-all_allowed-end-3
 slice_bounds-all_allowed-end-3 c = let a = c.args in sym (length-take-le a.n a.t.now (omega arith))
 
 pub returns-then-not-all_allowed-3 : goal.returns-then-not-all_allowed-3
-returns-then-not-all_allowed-3 c = rw (decided c.before.before.before.before.before.before.before.before.before, sym c.all_allowed.ensures ∙ c.if-not-all_allowed.false, sym c.all_allowed-2.ensures ∙ c.if-not-all_allowed-2.false, sym c.all_allowed-3.ensures ∙ c.if-not-all_allowed-3.true)
+returns-then-not-all_allowed-3 c = rw (decided (goal.at.returns-then-not-all_allowed-3 c).Else-t-n, sym c.all_allowed.ensures ∙ c.if-not-all_allowed.false, sym c.all_allowed-2.ensures ∙ c.if-not-all_allowed-2.false, sym c.all_allowed-3.ensures ∙ c.if-not-all_allowed-3.true)
 
 pub returns : goal.returns
-returns c = rw (decided c.before.before.before.before.before.before.before.before.before, sym c.all_allowed.ensures ∙ c.if-not-all_allowed.false, sym c.all_allowed-2.ensures ∙ c.if-not-all_allowed-2.false, sym c.all_allowed-3.ensures ∙ c.if-not-all_allowed-3.false)
+returns c = rw (decided (goal.at.returns c).Else-t-n, sym c.all_allowed.ensures ∙ c.if-not-all_allowed.false, sym c.all_allowed-2.ensures ∙ c.if-not-all_allowed-2.false, sym c.all_allowed-3.ensures ∙ c.if-not-all_allowed-3.false)

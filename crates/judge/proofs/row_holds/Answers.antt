@@ -15,32 +15,33 @@ use Rattle.judge.specs.Judge.{allowed, total, residual}
 use Rattle.judge.proofs.Every.{front_at}
 use Rattle.judge.proofs.Places.{Lies, lies}
 use Rattle.judge.proofs.row_holds.Goals as goal
+use Rattle.judge.proofs.row_holds.Goals.{Start}
 
-at_row : (s : goal.Start) → Lies s.args.i s.args.n
+at_row : (s : Start) → Lies s.args.i s.args.n
 at_row s = lies s.args.i s.args.n s.requires.1 s.requires.0.most
 
 pub overflow_mul-from : goal.overflow_mul-from
-overflow_mul-from c = let r = at_row c.before.before.before.before in omega arith
+overflow_mul-from c = let r = at_row (goal.at.overflow_mul-from c).Start in omega arith
 
 pub add_row-requires : goal.add_row-requires
 add_row-requires c =
-    let s = c.before.before.before.before.before.before in
+    let s = (goal.at.add_row-requires c).Start in
     let r = at_row s in
     (s.requires.0, omega arith, no_terms _ _ c.empty-plus.ensures c.empty-minus.ensures)
 
 pub overflow_add-right : goal.overflow_add-right
-overflow_add-right c = let r = at_row c.before.before.before.before.before.before.before.before.before in omega arith
+overflow_add-right c = let r = at_row (goal.at.overflow_add-right c).Start in omega arith
 
 pub offset_bounds-m-right : goal.offset_bounds-m-right
-offset_bounds-m-right c = let r = at_row c.before.before.before.before.before.before.before.before.before.before.before in omega arith
+offset_bounds-m-right c = let r = at_row (goal.at.offset_bounds-m-right c).Start in omega arith
 
 pub bounds-m-right : goal.bounds-m-right
-bounds-m-right c = let r = at_row c.before.before.before.before.before.before.before.before.before.before.before.before in omega arith
+bounds-m-right c = let r = at_row (goal.at.bounds-m-right c).Start in omega arith
 
 pub returns : goal.returns
 unfolding residual
 returns c =
-    let s = c.before.before.before.before.before.before.before.before.before.before.before.before.before.before.before.before.before.before in
+    let s = (goal.at.returns c).Start in
     let n = s.args.n in
     let m = s.args.m.now in
     let from = s.args.i * (n + 1) in
