@@ -60,14 +60,14 @@ fn shares(r: &[u8], q: &[u8]) -> bool
 
 // Whether a record's kind is the inductor's.
 fn is_inductor(bytes: &[u8]) -> bool
-    ensures { result ≡ sharing.isInductor bytes.now }
+    ensures { result ≡ sharing.is_inductor bytes.now }
 {
     record::byte_at(bytes, 0) == numbers::kind::INDUCTOR
 }
 
 // Whether a record's kind has a source number.
 fn has_source(bytes: &[u8]) -> bool
-    ensures { result ≡ sharing.hasSource bytes.now }
+    ensures { result ≡ sharing.has_source bytes.now }
 {
     let u = record::uses_of(record::byte_at(bytes, 0));
     u.source

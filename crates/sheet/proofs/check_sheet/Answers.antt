@@ -11,14 +11,13 @@ use lib.Dec.{eqb}
 use Rattle.sheet.specs.Record.{record_at, decode_of}
 use Rattle.sheet.specs.Range.{element_fault}
 use Rattle.sheet.specs.Sharing.{alone, FirstShared}
-use Rattle.sheet.specs.Check.{check_from, check_of, check_step, record_refusal}
+use Rattle.sheet.specs.Check.{check_from, check_step, record_refusal}
 use Rattle.sheet.specs.Laws.Inside.{inside_of_lem}
 use Rattle.sheet.specs.declared.Element.{Element}
 use Rattle.sheet.specs.declared.Limits.{Limits}
 use Rattle.sheet.specs.declared.Decoded.{Decoded}
 use Rattle.sheet.specs.declared.Decoded.TheVariants.{Good, Refused}
 use Rattle.sheet.specs.declared.Checked.TheVariants.{Faulty}
-use borrow.Author.Rules.{rules}
 use Rattle.sheet.proofs.check_sheet.Goals as goal
 
 own_at : (s : List ℕ) (count p i : ℕ) → FirstShared s count p → i < count → i ≤ p → (b : Bool) → eqb i p ≡ b → not b ≡ alone s i
@@ -58,7 +57,7 @@ loop-i-init c = (omega arith, omega arith, rw (sub-zero, c.records-count.ensures
 pub returns-in_default : goal.returns-in_default
 returns-in_default c =
     let a = c.args in
-    let told = c.enum_told-1.given.1 in
+    let told = c.in_default.is in
     let ends = stops a.sheet.now c.loop-i.i refl a.l c.records-count.result c.loop-i-test.true c.element_at-d.ensures told in
     ap (λ (k : ℕ). Faulty k c.loop-i.i) (c.refusal.ensures ∙ ap record_refusal told) ∙ (sym ends ∙ c.loop-i.invariant.2)
 
@@ -69,7 +68,7 @@ returns-then-fault-ne0 c =
     let h = c.loop-i-test.true in
     let p = c.first_shared-shared.result in
     let own = own_at a.sheet.now n.result p c.loop-i.i (rw n.ensures c.first_shared-shared.ensures) h c.loop-i.invariant.1 (eqb c.loop-i.i p) refl in
-    let ends = faulty a.sheet.now c.loop-i.i refl a.l n.result h c.element_at-d.ensures c.d-1.given.1 own c.element_fault-fault.ensures c.if-fault-ne0.true in
+    let ends = faulty a.sheet.now c.loop-i.i refl a.l n.result h c.element_at-d.ensures c.in-Good.is own c.element_fault-fault.ensures c.if-fault-ne0.true in
     sym ends ∙ c.loop-i.invariant.2
 
 pub loop-i-preserved : goal.loop-i-preserved
@@ -80,7 +79,7 @@ loop-i-preserved c =
     let p = c.first_shared-shared.result in
     let fault = c.element_fault-fault.ensures in
     let own = own_at a.sheet.now n.result p c.loop-i.i (rw n.ensures c.first_shared-shared.ensures) h c.loop-i.invariant.1 (eqb c.loop-i.i p) refl in
-    let goes = passes a.sheet.now c.loop-i.i refl a.l n.result h c.element_at-d.ensures c.d-1.given.1 own fault c.if-fault-ne0.false in
+    let goes = passes a.sheet.now c.loop-i.i refl a.l n.result h c.element_at-d.ensures c.in-Good.is own fault c.if-fault-ne0.false in
     let mine = (inside_of_lem _ _ _ (sym fault ∙ c.if-fault-ne0.false)).0 in
     (omega arith, not-it p c.loop-i.i c.loop-i.invariant.1 (eqb c.loop-i.i p) refl mine, goes ∙ c.loop-i.invariant.2)
 

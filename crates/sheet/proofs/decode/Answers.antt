@@ -1,6 +1,5 @@
 use mathlib.Core.Path.{◌∙◌}
 use Rattle.sheet.specs.Laws.Record.{decode_own}
-use borrow.Author.Rules.{rules}
 use Rattle.sheet.proofs.decode.Goals as goal
 
 pub returns : goal.returns

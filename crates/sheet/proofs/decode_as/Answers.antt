@@ -7,7 +7,6 @@ use Rattle.sheet.specs.declared.Element.{Element}
 use Rattle.sheet.specs.declared.record.Uses.{Uses}
 use Rattle.sheet.specs.declared.Decoded.{Decoded}
 use Rattle.sheet.specs.declared.Decoded.TheVariants.{Good, Refused}
-use borrow.Author.Rules.{rules}
 use Rattle.sheet.proofs.decode_as.Goals as goal
 
 module _ (r : List ℕ) (k : ℕ) {d : Decoded} (q : d ≡ element_of k r) where
@@ -31,12 +30,12 @@ module _ (r : List ℕ) (k : ℕ) {d : Decoded} (q : d ≡ element_of k r) where
         rw (x, y)
 
 pub returns-in_default : goal.returns-in_default
-returns-in_default c = bad _ _ c.element_of-d.ensures c.enum_told-in_default-1.given.1
+returns-in_default c = bad _ _ c.element_of-d.ensures c.in_default.is
 
 pub returns-then-rest_zero : goal.returns-then-rest_zero
 returns-then-rest_zero c =
-    good _ _ c.element_of-d.ensures c.enum_told-1.given.1 c.uses_of.ensures c.rest_zero.ensures c.if-rest_zero.true
+    good _ _ c.element_of-d.ensures c.in-Good.is c.uses_of.ensures c.rest_zero.ensures c.if-rest_zero.true
 
 pub returns-else-rest_zero : goal.returns-else-rest_zero
 returns-else-rest_zero c =
-    soiled _ _ c.element_of-d.ensures c.enum_told-1.given.1 c.uses_of.ensures c.rest_zero.ensures c.if-rest_zero.false
+    soiled _ _ c.element_of-d.ensures c.in-Good.is c.uses_of.ensures c.rest_zero.ensures c.if-rest_zero.false

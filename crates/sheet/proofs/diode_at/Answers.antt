@@ -1,5 +1,4 @@
 -- `sheet::diode_at` meets its contract: the numbers of record i, read where a diode has them. Assumes nothing.
-use borrow.Author.Rules.{rules}
 use Rattle.sheet.proofs.diode_at.Goals as goal
 
 pub returns : goal.returns

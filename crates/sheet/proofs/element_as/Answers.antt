@@ -1,6 +1,5 @@
 use mathlib.Core.Path.{ap, ◌∙◌}
 use Rattle.sheet.specs.Record.{decode_as}
-use borrow.Author.Rules.{rules}
 use Rattle.sheet.proofs.element_as.Goals as goal
 
 pub returns : goal.returns

@@ -1,6 +1,5 @@
 use borrow.Author.Tests.{lt-ltb, le-ltb}
 use Rattle.sheet.specs.Row.{row_of}
-use borrow.Author.Rules.{rules}
 use Rattle.sheet.proofs.row_of.Goals as goal
 
 pub returns-then-nodes-lt65536 : goal.returns-then-nodes-lt65536

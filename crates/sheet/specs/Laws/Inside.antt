@@ -1,5 +1,5 @@
 -- An element without a fault has its numbers in range, and its source number is its own. Clients cite Inside and inside_of_lem.
-use Rattle.std.specs.Prelude.{ℕ, ◌<◌, ◌≤◌, ◌≡◌, refl, Bool, true, false, ◌&&◌, List, [], ◌∷◌, ltb, leb}
+use Rattle.std.specs.Prelude.{ℕ, ◌<◌, ◌≤◌, ◌≡◌, refl, Bool, true, false, ◌&&◌, List, [], ◌∷◌}
 use Rattle.std.proofs.Math.Bool.{and-eq-true_iff as both}
 use Rattle.std.proofs.Common.{arith, ltb-true, leb-true}
 use Rattle.sheet.specs.declared.NodeId.{NodeId}

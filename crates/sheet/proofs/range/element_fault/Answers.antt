@@ -1,5 +1,4 @@
 use Rattle.sheet.specs.Range.{element_fault}
-use borrow.Author.Rules.{rules}
 use Rattle.sheet.proofs.range.element_fault.Goals as goal
 
 pub returns : goal.returns

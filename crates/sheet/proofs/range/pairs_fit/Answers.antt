@@ -2,7 +2,6 @@
 use mathlib.Core.Path.{◌≡◌, ◌∙◌}
 use mathlib.Core.Bool.{Bool, true, ◌&&◌, and_assoc}
 use Rattle.sheet.specs.Range.{node_below}
-use borrow.Author.Rules.{rules}
 use Rattle.sheet.proofs.range.pairs_fit.Goals as goal
 
 four : {r s : Bool} (a b x y : Bool) → r ≡ (a && (b && true)) → s ≡ (x && (y && true)) → (r && s) ≡ (a && (b && (x && (y && true))))

@@ -1,5 +1,4 @@
 use mathlib.Core.Bool.{and-true}
-use borrow.Author.Rules.{rules}
 use Rattle.sheet.proofs.range.source_fits.Goals as goal
 
 pub returns : goal.returns

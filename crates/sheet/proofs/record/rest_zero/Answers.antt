@@ -1,6 +1,5 @@
 use Rattle.sheet.specs.Record.{rest_zero}
 use Rattle.sheet.proofs.Zeros.{zero16, zero32, zero64}
-use borrow.Author.Rules.{rules}
 use Rattle.sheet.proofs.record.rest_zero.Goals as goal
 
 pub returns : goal.returns

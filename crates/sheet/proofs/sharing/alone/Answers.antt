@@ -1,14 +1,12 @@
 -- `sheet::sharing::alone` meets its contract: what is left to ask of the first k records decides, and nothing is asked without a source number. Assumes nothing.
-use Prim.Native.Nat.{ℕ, suc, ◌-◌, ◌<◌, ◌≤◌}
+use Prim.Native.Nat.{ℕ, suc, ◌-◌, ◌<◌}
 use mathlib.Core.Path.{◌≡◌, refl, sym, ◌∙◌}
 use mathlib.Core.Bool.{Bool, true, false, not, ◌&&◌}
 use mathlib.Core.List.{List}
 use native.Mathlib.Omega.{arith}
-use borrow.Author.Tests.{not-true}
 use Rattle.sheet.specs.Record.{record_at}
 use Rattle.sheet.specs.Sharing.{shares, none_shares}
 use Rattle.sheet.specs.Laws.Sharing.{sourceless}
-use borrow.Author.Rules.{rules}
 use Rattle.sheet.proofs.sharing.alone.Goals as goal
 
 split : (s own : List ℕ) (k j : ℕ) → k ≡ suc j → none_shares s k own ≡ (not (shares (record_at s j) own) && none_shares s j own)
@@ -29,7 +27,7 @@ module _ (s own : List ℕ) {q : List ℕ} {b : Bool} (k : ℕ) (h : 0 < k) (e :
 pub returns-then-not-has_source : goal.returns-then-not-has_source
 returns-then-not-has_source c =
     let e = c.record_at-own.ensures in
-    sym (sourceless _ _ _ (rw e at (sym c.has_source.ensures ∙ not-true _ c.if-not-has_source.true)))
+    sym (sourceless _ _ _ (rw e at (sym c.has_source.ensures ∙ c.if-not-has_source.true)))
 
 pub loop-k-init : goal.loop-k-init
 loop-k-init c = (omega arith, refl)

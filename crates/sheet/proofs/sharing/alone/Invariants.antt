@@ -1,13 +1,6 @@
-use Prim.Native.Nat.{ℕ, suc, ◌-◌, ◌<◌, ◌≤◌}
-use mathlib.Core.Path.{◌≡◌, refl, sym, ◌∙◌}
-use mathlib.Core.Bool.{Bool, true, false, not, ◌&&◌}
-use mathlib.Core.List.{List}
-use native.Mathlib.Omega.{arith}
-use borrow.Author.Tests.{not-true}
-use Rattle.sheet.specs.Record.{record_at}
-use Rattle.sheet.specs.Sharing.{shares, none_shares}
-use Rattle.sheet.specs.Laws.Sharing.{sourceless}
-use borrow.Author.Rules.{rules}
+use Prim.Native.Nat.{◌≤◌}
+use mathlib.Core.Path.{◌≡◌}
+use Rattle.sheet.specs.Sharing.{none_shares}
 use Rattle.sheet.proofs.sharing.alone.Given as goal
 
 abbrev pub invariant-loop-k : goal.invariant-loop-k

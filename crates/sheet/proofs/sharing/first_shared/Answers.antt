@@ -1,11 +1,9 @@
 -- `sheet::sharing::first_shared` meets its contract: without an inductor no record shares a number that it may not. Assumes nothing.
-use Prim.Native.Nat.{ℕ, ◌<◌}
+use Prim.Native.Nat.{ℕ}
 use mathlib.Core.Path.{◌≡◌, sym, ◌∙◌}
 use mathlib.Core.Bool.{false}
 use mathlib.Core.List.{List}
 use native.Mathlib.Omega.{arith}
-use borrow.Author.Rules.{rules}
-use borrow.Author.Tests.{not-true}
 use Rattle.sheet.specs.Record.{record_at}
 use Rattle.sheet.specs.Sharing.{inductor_among, FirstShared}
 use Rattle.sheet.specs.Laws.Sharing.{none_among, without_inductor}
@@ -19,7 +17,7 @@ none s n p e h =
     }
 
 pub returns-then-not-has_inductors : goal.returns-then-not-has_inductors
-returns-then-not-has_inductors c = none _ _ _ c.records-count.ensures (sym c.has_inductors.ensures ∙ not-true _ c.if-not-has_inductors.true)
+returns-then-not-has_inductors c = none _ _ _ c.records-count.ensures (sym c.has_inductors.ensures ∙ c.if-not-has_inductors.true)
 
 pub returns : goal.returns
 returns c = rw c.records-count.ensures at c.first_from.ensures

@@ -1,5 +1,4 @@
 -- `sheet::sharing::has_source` meets its contract: it is what its kind uses. Assumes nothing.
-use borrow.Author.Rules.{rules}
 use Rattle.sheet.proofs.sharing.has_source.Goals as goal
 
 pub returns : goal.returns

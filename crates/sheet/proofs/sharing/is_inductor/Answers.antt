@@ -1,5 +1,4 @@
 -- `sheet::sharing::is_inductor` meets its contract: it is the test of its first byte. Assumes nothing.
-use borrow.Author.Rules.{rules}
 use Rattle.sheet.proofs.sharing.is_inductor.Goals as goal
 
 pub returns : goal.returns

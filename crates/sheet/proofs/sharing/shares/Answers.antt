@@ -1,6 +1,5 @@
 -- `sheet::sharing::shares` meets its contract: each test is one of the definition's. Assumes nothing.
 use Rattle.sheet.specs.Sharing.{shares}
-use borrow.Author.Rules.{rules}
 use Rattle.sheet.proofs.sharing.shares.Goals as goal
 
 pub returns : goal.returns
