@@ -1,14 +1,12 @@
 -- The search for the fewest digits: nothing in it wraps, and its turns. Assumes nothing.
 use mathlib.Core.Path.{◌≡◌, refl, sym, ap, ◌∙◌, subst}
 use mathlib.Core.Bool.{Bool, true, false}
-use Prim.Native.Nat.{ℕ, zero, suc, ◌+◌, ◌-◌, ◌*◌, ◌/◌, ◌%◌, ◌^◌, ◌≤◌, ◌<◌}
-use native.Mathlib.Nat.{mod-lt, div-le_self, div-mul-le_self, lt_of_le_of_lt, pow-le-pow_right, pow-suc, mul-div_cancel, lt_irrefl, le_trans}
-use native.Mathlib.Numerals.{add-one}
+use Prim.Native.Nat.{ℕ, suc, ◌+◌, ◌-◌, ◌*◌, ◌/◌, ◌%◌, ◌^◌, ◌≤◌, ◌<◌}
+use native.Mathlib.Nat.{mod-lt, div-le_self, div-mul-le_self, lt_of_le_of_lt, pow-le-pow_right, pow-suc, mul-div_cancel}
 use native.Mathlib.Omega.{arith}
-use borrow.Author.Tests.{eq-eqb, ne_eqb}
-use lib.Dec.{eqb, lit<}
+use borrow.Author.Tests.{ne_eqb}
+use lib.Dec.{lit<}
 use Rattle.decimal.specs.declared.shortest.Span.{Span}
-use Rattle.decimal.specs.declared.shortest.Number.{Number}
 use Rattle.decimal.specs.Shortest.{span_of, low_edge, candidate_of, number_of, unless_none}
 use Rattle.decimal.specs.Laws.Units.{power_pos}
 use Rattle.decimal.proofs.Units.{whole_few}

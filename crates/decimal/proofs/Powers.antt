@@ -1,15 +1,15 @@
 -- Limbs times a power and over a power, a factor at a time; and the limbs of a number below 2 ^ 64. Assumes nothing.
 use mathlib.Core.Path.{◌≡◌, refl, sym, ap, ◌∙◌, subst}
-use mathlib.Core.Bool.{Bool, true, false, ◌&&◌}
+use mathlib.Core.Bool.{Bool, true, ◌&&◌}
 use mathlib.Core.List.{List}
 use Prim.Native.Nat.{ℕ, zero, suc, ◌+◌, ◌*◌, ◌/◌, ◌%◌, ◌^◌, ◌≤◌, ◌<◌}
-use native.Mathlib.Nat.{mul-one, mul-zero, mul-suc, mul_comm, mul_assoc, div-one, mod-one, pow-zero, pow-suc, pow-le-pow_right, mul-le-mul_left, mul-le-mul_right, lt_of_le_of_lt, div-add-mod, div-div-eq-div-mul, mul-pos}
+use native.Mathlib.Nat.{mul-one, mul-zero, mul-suc, mul_comm, mul_assoc, div-one, mod-one, pow-zero, pow-suc, pow-le-pow_right, mul-le-mul_left, mul-le-mul_right, lt_of_le_of_lt, div-add-mod, div-div-eq-div-mul}
 use native.Mathlib.Numerals.{add-one}
 use native.Mathlib.Omega.{arith}
 use borrow.Author.Tests.{ne_eqb}
 use lib.Dec.{eqb}
 use lib.Arith.{digits_div, digits_mod, mod-mul}
-use lib.Pow.{pow-add, pow_pos}
+use lib.Pow.{pow-add}
 use lib.ListN.{length, get_or, set, drop, length-set}
 use lib.Seq.{get_or-set_other}
 use Rattle.decimal.specs.Limbs.{value, Few, Holds, Divided}

@@ -2,16 +2,15 @@
 use mathlib.Core.Path.{◌≡◌, refl, sym, ap, ◌∙◌, subst}
 use mathlib.Core.Bool.{Bool, true, false, ◌&&◌}
 use mathlib.Core.List.{List}
-use Prim.Native.Nat.{ℕ, zero, suc, ◌+◌, ◌-◌, ◌*◌, ◌/◌, ◌%◌, ◌^◌, ◌≤◌, ◌<◌, min}
-use native.Mathlib.Nat.{mul-one, mul_comm, mul_assoc, mul-le-mul, mul-le-mul_left, mul-le-mul_right, mul-lt-mul_of_pos_right, le_trans, le_of_lt, le_of_eq, lt_of_le_of_lt, lt_of_lt_of_le, mul-div-mul_right, mul-div_cancel, mul-mod_left, div-div-eq-div-mul, div-lt_iff_lt-mul, le-div_iff_mul-le, mul-pos}
+use Prim.Native.Nat.{ℕ, ◌+◌, ◌-◌, ◌*◌, ◌/◌, ◌%◌, ◌^◌, ◌≤◌, ◌<◌, min}
+use native.Mathlib.Nat.{mul-one, mul_comm, mul_assoc, mul-le-mul, mul-le-mul_left, mul-lt-mul_of_pos_right, le_of_lt, lt_of_le_of_lt, mul-div-mul_right, mul-div_cancel, mul-mod_left, div-div-eq-div-mul, div-lt_iff_lt-mul, le-div_iff_mul-le, mul-pos}
 use native.Mathlib.Omega.{arith}
-use lib.Dec.{eqb, lit<, lit≤}
+use lib.Dec.{eqb, lit<}
 use lib.Pow.{pow-add, pow_pos}
 use lib.ListN.{length}
-use Rattle.decimal.specs.declared.scale.Cut.{Cut}
 use Rattle.decimal.specs.Limbs.{value, Holds}
-use Rattle.decimal.specs.Scale.{place_of, top, bottom, cut_of}
-use Rattle.decimal.specs.Laws.Units.{Quarter, quarter_facts, bottom_pos, power_pos}
+use Rattle.decimal.specs.Scale.{place_of, top, bottom}
+use Rattle.decimal.specs.Laws.Units.{quarter_facts, bottom_pos, power_pos}
 use Rattle.decimal.proofs.Powers.{even_twice}
 
 -- ---- two steps on limbs are one

@@ -1,5 +1,5 @@
 -- The digits of limbs at a bit's place, those below it, and how many a float drops. Assumes nothing.
-use Rattle.std.proofs.Common.{◌≡◌, ℕ, zero, suc, ◌+◌, ◌-◌, ◌*◌, ◌/◌, ◌%◌, ◌^◌, ◌<◌, ◌≤◌, Bool, true, false, ◌&&◌, eqb, ◌⊎◌, List, get_or, take, drop, sym, refl, ap, ◌∙◌, subst, ⊎_elim, le_trans, lt_of_lt_of_le, mod-lt, mod-eq_of_lt, mul_assoc, div-lt_iff_lt-mul, eq-zero-or-pos, mul-le-mul_left, lt_of_not-le, le-div_iff_mul-le, zero-add, not-le_of_lt, arith, lit<, pow_pos, pow_mono, pow-add, shr-shr, shr_lt, eq-eqb, ne_eqb}
+use Rattle.std.proofs.Common.{◌≡◌, ℕ, zero, suc, ◌+◌, ◌-◌, ◌*◌, ◌/◌, ◌%◌, ◌^◌, ◌<◌, ◌≤◌, Bool, true, false, ◌&&◌, eqb, List, get_or, take, drop, sym, refl, ap, ◌∙◌, subst, ⊎_elim, le_trans, lt_of_lt_of_le, mod-lt, mod-eq_of_lt, mul_assoc, div-lt_iff_lt-mul, eq-zero-or-pos, mul-le-mul_left, lt_of_not-le, le-div_iff_mul-le, zero-add, not-le_of_lt, arith, lit<, pow_pos, pow_mono, pow-add, shr-shr, shr_lt, eq-eqb, ne_eqb}
 use native.Mathlib.Nat.{div-eq_of_lt, div-add-mod, add-mul-div_left, add-mul-mod_self_left}
 use lib.Dec.{eqb-suc-zero}
 use lib.Pow.{mod-pow-add}

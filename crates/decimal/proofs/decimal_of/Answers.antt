@@ -9,9 +9,6 @@ use lib.Dec.{T, eqb}
 use lib.Ieee.{Float, nan, inf, fin, is_nan, ne, eq, up, down, level}
 use lib.Ieee.Bits.{is_false}
 use Rattle.decimal.specs.Decimal.{decimal_of}
-use Rattle.decimal.proofs.decimal_of.Reads as reads
-use Rattle.decimal.proofs.decimal_of.Lts as lts
-use Rattle.decimal.proofs.of_pattern.Reads as of-pattern-reads
 use Rattle.decimal.proofs.decimal_of.Goals as goal
 
 number : (x : Float) → ne x x ≡ false → T (not (is_nan x))

@@ -2,10 +2,6 @@
 use borrow.Author.Rules.{rules}
 use borrow.Author.Tests.{eq-eqb, ne_eqb}
 use Rattle.decimal.specs.Decimal.{of_pattern}
-use Rattle.decimal.proofs.of_pattern.Reads as reads
-use Rattle.decimal.proofs.of_pattern.Lts as lts
-use Rattle.decimal.proofs.of_steps.Reads as of-steps-reads
-use Rattle.decimal.proofs.power_of_two.Reads as power-of-two-reads
 use Rattle.decimal.proofs.of_pattern.Goals as goal
 
 pub returns-then-field-eq2047 : goal.returns-then-field-eq2047

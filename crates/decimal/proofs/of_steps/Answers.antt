@@ -8,11 +8,6 @@ use Rattle.decimal.specs.declared.shortest.Number.{Number}
 use Rattle.decimal.specs.Shortest.{number_of}
 use Rattle.decimal.specs.Decimal.{signed}
 use Rattle.decimal.proofs.Digits.{span_few}
-use Rattle.decimal.proofs.of_steps.Reads as reads
-use Rattle.decimal.proofs.of_steps.Lts as lts
-use Rattle.decimal.proofs.scale.place_of.Reads as place-of-reads
-use Rattle.decimal.proofs.shortest.shortest.Reads as shortest-reads
-use Rattle.decimal.proofs.shortest.span_of.Reads as span-of-reads
 use Rattle.decimal.proofs.of_steps.Goals as goal
 
 pub span_of-requires : goal.span_of-requires

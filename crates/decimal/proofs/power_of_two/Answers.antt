@@ -1,8 +1,5 @@
 -- src/lib.rt:75:1
-use borrow.Author.Rules.{rules}
 use borrow.Author.Tests.{eq-eqb, ne_eqb}
-use Rattle.decimal.proofs.power_of_two.Reads as reads
-use Rattle.decimal.proofs.power_of_two.Lts as lts
 use Rattle.decimal.proofs.power_of_two.Goals as goal
 
 pub returns-then-low-eq0 : goal.returns-then-low-eq0

@@ -1,12 +1,8 @@
 -- `judge::all_allowed` meets its contract. The invariant: what is left to look at says the same as the whole.
 use borrow.Author.Rules.{rules}
-use mathlib.Core.Path.{◌≡◌, refl, sym, ◌∙◌}
-use Prim.Native.Nat.{◌-◌, ◌≤◌}
+use mathlib.Core.Path.{refl, sym, ◌∙◌}
 use native.Mathlib.Omega.{arith}
-use lib.ListN.{length, drop}
 use lib.Ieee.{nan}
-use borrow.Author.Tests.{not-true, not-false}
-use Rattle.num.specs.Lists.{every}
 use Rattle.judge.specs.Judge.{allowed}
 use Rattle.judge.proofs.Every.{every_next, every_not, every_end}
 use Rattle.judge.proofs.all_allowed.Goals as goal

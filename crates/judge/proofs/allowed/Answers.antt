@@ -1,5 +1,4 @@
 -- `judge::allowed` meets its contract.
-use borrow.Author.Rules.{rules}
 use mathlib.Core.Path.{◌≡◌, sym, ap, ◌∙◌}
 use mathlib.Core.Bool.{Bool, true, false, not, ◌&&◌, and-true, and-false}
 use lib.Ieee.{Float, lt}
@@ -26,6 +25,6 @@ returns c =
     let x = c.args.x in
     let b = c.args.tolerance in
     elim c.if-tolerance.branch [
-      then-tolerance+else-x w ↦ c.finite.ensures ∙ not-below x b w.if-tolerance.true w.if-x.false
-    | else-tolerance w ↦ c.finite.ensures ∙ plain x b w.if-tolerance.false
+      | then-tolerance+else-x w ↦ c.finite.ensures ∙ not-below x b w.if-tolerance.true w.if-x.false
+      | else-tolerance w ↦ c.finite.ensures ∙ plain x b w.if-tolerance.false
     ]

@@ -1,13 +1,12 @@
 -- `judge::refusal` meets its contract.
 -- the lengths are enough, and the numbers decide
-use borrow.Author.Rules.{rules}
 use mathlib.Core.Path.{◌≡◌, sym, ◌∙◌}
 use mathlib.Core.Bool.{true, false, cond, ◌&&◌}
 use Prim.Native.Nat.{◌+◌, ◌*◌}
 use native.Mathlib.Omega.{arith}
 use lib.ListN.{take}
 use lib.Seq.{length-take-le}
-use borrow.Author.Tests.{eq-eqb, ne_eqb, lt-ltb, le-ltb, not-true, not-false}
+use borrow.Author.Tests.{eq-eqb, ne_eqb, lt-ltb, le-ltb}
 use Rattle.num.specs.Lists.{every}
 use Rattle.judge.specs.Judge.{allowed, judge_refusal}
 use Rattle.judge.proofs.Places.{size, numbers_decide}

@@ -1,7 +1,6 @@
 -- `judge::row_holds` meets its contract.
 -- the row lies within the system
 -- the row lies within the system
-use borrow.Author.Rules.{rules}
 use mathlib.Core.Path.{◌∙◌}
 use mathlib.Core.Bool.{false}
 use Prim.Native.Nat.{◌+◌, ◌*◌}

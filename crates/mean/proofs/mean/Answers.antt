@@ -1,5 +1,5 @@
 -- `mean::mean` meets its contract.
-use Rattle.std.proofs.Common.{◌^◌, sym, ◌∙◌, le_of_lt, arith, rules, le-ltb, lt-ltb, eq-eqb, ne_eqb, leb-false, leb-true}
+use Rattle.std.proofs.Common.{◌^◌, sym, ◌∙◌, le_of_lt, arith, le-ltb, lt-ltb, eq-eqb, ne_eqb, leb-false, leb-true}
 use Rattle.mean.specs.Mean.{mean_of}
 use Rattle.mean.specs.Laws.Mean.{mean_plus, mean_minus}
 use Rattle.mean.proofs.mean.Goals as goal

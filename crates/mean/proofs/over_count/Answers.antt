@@ -1,5 +1,5 @@
 -- `mean::over_count` meets its contract.
-use Rattle.std.proofs.Common.{sym, ◌∙◌, rules}
+use Rattle.std.proofs.Common.{sym, ◌∙◌}
 use Rattle.mean.proofs.Rounds.{divided}
 use Rattle.mean.proofs.over_count.Goals as goal
 

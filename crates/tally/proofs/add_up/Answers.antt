@@ -1,10 +1,9 @@
 -- `tally::add_up` meets its contract.
-use Prim.Native.Nat.{◌+◌, ◌-◌, ◌*◌, ◌≤◌}
+use Prim.Native.Nat.{◌+◌, ◌*◌}
 use mathlib.Core.Path.{◌≡◌, sym, ◌∙◌}
 use native.Mathlib.Omega.{arith}
-use Rattle.exact.specs.Sums.{Sums}
 use Rattle.exact.specs.Laws.Sums.{row_length, no_terms}
-use Rattle.tally.specs.Tally.{number_in, value_in, report_over, sum_of}
+use Rattle.tally.specs.Tally.{number_in, value_in}
 use Rattle.tally.specs.Laws.Tally.{settled_most, sum_more, report_more}
 use Rattle.loops.specs.Laws.Each.{row}
 use borrow.Author.Rules.{rules}

@@ -1,12 +1,7 @@
-use Prim.Native.Nat.{◌+◌, ◌-◌, ◌*◌, ◌≤◌}
-use mathlib.Core.Path.{◌≡◌, sym, ◌∙◌}
-use native.Mathlib.Omega.{arith}
+use Prim.Native.Nat.{◌≤◌}
+use mathlib.Core.Path.{◌≡◌}
 use Rattle.exact.specs.Sums.{Sums}
-use Rattle.exact.specs.Laws.Sums.{row_length, no_terms}
 use Rattle.tally.specs.Tally.{number_in, value_in, report_over, sum_of}
-use Rattle.tally.specs.Laws.Tally.{settled_most, sum_more, report_more}
-use Rattle.loops.specs.Laws.Each.{row}
-use borrow.Author.Rules.{rules}
 use Rattle.tally.proofs.add_up.Given as goal
 
 abbrev pub invariant-loop-j : goal.invariant-loop-j

@@ -1,9 +1,6 @@
-use Prim.Native.Nat.{ℕ, ◌-◌, ◌≤◌}
-use mathlib.Core.Path.{◌≡◌, refl, ap, ◌∙◌}
-use native.Mathlib.Omega.{arith}
+use Prim.Native.Nat.{◌≤◌}
+use mathlib.Core.Path.{◌≡◌}
 use Rattle.tally.specs.Tally.{number_in, how_many}
-use Rattle.tally.specs.Laws.Tally.{many_most, many_more}
-use borrow.Author.Rules.{rules}
 use Rattle.tally.proofs.count.Given as goal
 
 abbrev pub invariant-loop-j : goal.invariant-loop-j

@@ -1,7 +1,6 @@
 -- `tally::count_all` meets its contract.
 use mathlib.Core.Path.{◌∙◌}
 use Rattle.tally.specs.Laws.Ready.{counts_of}
-use borrow.Author.Rules.{rules}
 use Rattle.tally.proofs.count_all.Goals as goal
 
 pub returns : goal.returns

@@ -1,9 +1,9 @@
 -- `tally::count_each` meets its contract.
-use Prim.Native.Nat.{ℕ, ◌-◌, ◌≤◌}
+use Prim.Native.Nat.{ℕ}
 use mathlib.Core.List.{◌++◌}
 use mathlib.Core.Path.{◌≡◌, ap, ◌∙◌}
 use native.Mathlib.Omega.{arith}
-use lib.ListN.{length, drop}
+use lib.ListN.{drop}
 use Rattle.tally.specs.Tally.{number_in, how_many}
 use Rattle.loops.specs.Each.{each}
 use Rattle.loops.specs.Laws.Each.{each_more}

@@ -1,12 +1,9 @@
-use Prim.Native.Nat.{ℕ, ◌-◌, ◌≤◌}
+use Prim.Native.Nat.{◌≤◌}
 use mathlib.Core.List.{◌++◌}
-use mathlib.Core.Path.{◌≡◌, ap, ◌∙◌}
-use native.Mathlib.Omega.{arith}
+use mathlib.Core.Path.{◌≡◌}
 use lib.ListN.{length, drop}
 use Rattle.tally.specs.Tally.{number_in, how_many}
 use Rattle.loops.specs.Each.{each}
-use Rattle.loops.specs.Laws.Each.{each_more}
-use borrow.Author.Rules.{rules}
 use Rattle.tally.proofs.count_each.Given as goal
 
 abbrev pub invariant-loop-k : goal.invariant-loop-k

@@ -1,7 +1,6 @@
 -- `tally::count_to` meets its contract.
 use borrow.Author.Tests.{le-leb, lt-leb}
 use Rattle.tally.specs.Tally.{counts_to}
-use borrow.Author.Rules.{rules}
 use Rattle.tally.proofs.count_to.Goals as goal
 
 pub returns-then-numbers-jobs : goal.returns-then-numbers-jobs

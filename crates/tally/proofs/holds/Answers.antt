@@ -1,7 +1,6 @@
 -- `tally::holds` meets its contract.
 use borrow.Author.Tests.{le-ltb, lt-ltb, le-leb, lt-leb}
 use Rattle.tally.specs.Tally.{holds_jobs}
-use borrow.Author.Rules.{rules}
 use Rattle.tally.proofs.holds.Goals as goal
 
 pub returns-then-jobs-gt-JOBS : goal.returns-then-jobs-gt-JOBS

@@ -1,5 +1,4 @@
 -- `tally::one_more` meets its contract.
-use borrow.Author.Rules.{rules}
 use Rattle.tally.proofs.one_more.Goals as goal
 
 pub returns-then-same : goal.returns-then-same

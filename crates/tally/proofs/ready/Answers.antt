@@ -1,8 +1,7 @@
 -- `tally::ready` meets its contract.
 use mathlib.Core.Path.{sym, ◌∙◌}
-use borrow.Author.Tests.{eq-eqb, ne_eqb, not-true, not-false}
+use borrow.Author.Tests.{eq-eqb, ne_eqb}
 use Rattle.tally.specs.Tally.{ready}
-use borrow.Author.Rules.{rules}
 use Rattle.tally.proofs.ready.Goals as goal
 
 pub returns-then-not-holds : goal.returns-then-not-holds

@@ -2,7 +2,6 @@
 use mathlib.Core.Path.{sym, ◌∙◌}
 use Rattle.tally.specs.Tally.{totals_after}
 use Rattle.tally.specs.Laws.Ready.{ready_summable}
-use borrow.Author.Rules.{rules}
 use Rattle.tally.proofs.sum_up.Goals as goal
 
 pub add_up-requires : goal.add_up-requires

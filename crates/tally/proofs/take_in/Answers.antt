@@ -2,7 +2,6 @@
 use mathlib.Core.Path.{ap}
 use borrow.Author.Tests.{eq-eqb, ne_eqb}
 use Rattle.exact.specs.Kept.{Rows}
-use borrow.Author.Rules.{rules}
 use Rattle.tally.proofs.take_in.Goals as goal
 
 pub returns-then-number : goal.returns-then-number

@@ -1,7 +1,6 @@
 -- `tally::with_job` meets its contract.
 use borrow.Author.Tests.{eq-eqb, ne_eqb}
 use Rattle.tally.specs.Tally.{with_job}
-use borrow.Author.Rules.{rules}
 use Rattle.tally.proofs.with_job.Goals as goal
 
 pub returns-then-r-eq0 : goal.returns-then-r-eq0

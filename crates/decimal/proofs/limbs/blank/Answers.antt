@@ -1,10 +1,7 @@
 -- src/limbs.rt:87:1
-use borrow.Author.Rules.{rules}
 use mathlib.Core.Path.{refl}
 use Rattle.decimal.specs.Limbs.{value}
 use Rattle.decimal.proofs.Value.{few_none}
-use Rattle.decimal.proofs.limbs.blank.Reads as reads
-use Rattle.decimal.proofs.limbs.blank.Lts as lts
 use Rattle.decimal.proofs.limbs.blank.Goals as goal
 
 pub returns : goal.returns

@@ -3,9 +3,6 @@ use borrow.Author.Rules.{rules}
 use lib.Dec.{lit<}
 use native.Mathlib.Omega.{arith}
 use Rattle.decimal.proofs.Powers.{first_two}
-use Rattle.decimal.proofs.limbs.limbs_of.Reads as reads
-use Rattle.decimal.proofs.limbs.limbs_of.Lts as lts
-use Rattle.decimal.proofs.limbs.blank.Reads as blank-reads
 use Rattle.decimal.proofs.limbs.limbs_of.Goals as goal
 
 pub blank-l-requires : goal.blank-l-requires

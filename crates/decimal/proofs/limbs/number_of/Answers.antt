@@ -4,8 +4,6 @@ use native.Mathlib.Omega.{arith}
 use mathlib.Core.Path.{sym, subst}
 use Prim.Native.Nat.{ℕ, ◌^◌, ◌<◌}
 use Rattle.decimal.proofs.Value.{two_limbs}
-use Rattle.decimal.proofs.limbs.number_of.Reads as reads
-use Rattle.decimal.proofs.limbs.number_of.Lts as lts
 use Rattle.decimal.proofs.limbs.number_of.Goals as goal
 
 pub bounds-l-0 : goal.bounds-l-0

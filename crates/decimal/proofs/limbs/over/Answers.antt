@@ -1,12 +1,8 @@
 use borrow.Author.Rules.{rules}
 use native.Mathlib.Omega.{arith}
 use mathlib.Core.Path.{◌≡◌, refl}
-use Prim.Native.Nat.{◌+◌, ◌-◌, ◌*◌, ◌^◌, ◌≤◌, ◌<◌}
-use lib.ListN.{length}
-use Rattle.decimal.specs.Limbs.{value, Few}
-use Rattle.decimal.proofs.Value.{Lowered, lowered_start, lowered_turn, lowered_end, dividend_fits}
-use Rattle.decimal.proofs.limbs.over.Reads as reads
-use Rattle.decimal.proofs.limbs.over.Lts as lts
+use Prim.Native.Nat.{◌-◌, ◌^◌, ◌<◌}
+use Rattle.decimal.proofs.Value.{lowered_start, lowered_turn, lowered_end, dividend_fits}
 use Rattle.decimal.proofs.limbs.over.Goals as goal
 
 -- src/limbs.rt:71:5

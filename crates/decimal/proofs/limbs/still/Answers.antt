@@ -1,8 +1,5 @@
 -- src/limbs.rt:79:1
-use borrow.Author.Rules.{rules}
 use borrow.Author.Tests.{ne_eqb}
-use Rattle.decimal.proofs.limbs.still.Reads as reads
-use Rattle.decimal.proofs.limbs.still.Lts as lts
 use Rattle.decimal.proofs.limbs.still.Goals as goal
 
 pub returns-then-left-eq0 : goal.returns-then-left-eq0

@@ -1,12 +1,8 @@
 use borrow.Author.Rules.{rules}
 use native.Mathlib.Omega.{arith}
 use mathlib.Core.Path.{refl}
-use Prim.Native.Nat.{ℕ, ◌+◌, ◌-◌, ◌*◌, ◌^◌, ◌≤◌, ◌<◌}
-use lib.ListN.{length}
-use Rattle.decimal.specs.Limbs.{value, Few}
-use Rattle.decimal.proofs.Value.{Raised, raised_start, raised_more, raised_end, product_fits}
-use Rattle.decimal.proofs.limbs.times.Reads as reads
-use Rattle.decimal.proofs.limbs.times.Lts as lts
+use Prim.Native.Nat.{ℕ, ◌+◌, ◌^◌, ◌<◌}
+use Rattle.decimal.proofs.Value.{raised_start, raised_more, raised_end, product_fits}
 use Rattle.decimal.proofs.limbs.times.Goals as goal
 
 le-sum : (a b : ℕ) → a + b < 2 ^ 64 → a < 2 ^ 64

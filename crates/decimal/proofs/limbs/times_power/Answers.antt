@@ -1,14 +1,7 @@
 use borrow.Author.Rules.{rules}
 use native.Mathlib.Omega.{arith}
-use mathlib.Core.Path.{◌≡◌, refl, sym, ap, ◌∙◌, subst}
-use Prim.Native.Nat.{◌+◌, ◌-◌, ◌*◌, ◌/◌, ◌%◌, ◌^◌, ◌≤◌, ◌<◌}
-use lib.Dec.{eqb}
-use lib.ListN.{length}
-use Rattle.decimal.specs.Limbs.{value, Few, Holds}
+use mathlib.Core.Path.{◌≡◌}
 use Rattle.decimal.proofs.Powers.{times_none, times_room, times_more}
-use Rattle.decimal.proofs.limbs.times_power.Reads as reads
-use Rattle.decimal.proofs.limbs.times_power.Lts as lts
-use Rattle.decimal.proofs.limbs.times.Reads as times-reads
 use Rattle.decimal.proofs.limbs.times_power.Goals as goal
 
 -- src/limbs.rt:32:5

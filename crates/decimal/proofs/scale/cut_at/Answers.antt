@@ -5,15 +5,6 @@ use Prim.Native.Nat.{ℕ, ◌^◌, ◌<◌}
 use native.Mathlib.Nat.{lt_of_lt_of_le}
 use lib.Dec.{lit<, lit≤}
 use Rattle.decimal.proofs.Units.{room_first, room_second, join_times, join_over, whole_at, whole_few, even_at}
-use Rattle.decimal.proofs.scale.cut_at.Reads as reads
-use Rattle.decimal.proofs.scale.cut_at.Lts as lts
-use Rattle.decimal.proofs.limbs.limbs_of.Reads as limbs-of-reads
-use Rattle.decimal.proofs.limbs.number_of.Reads as number-of-reads
-use Rattle.decimal.proofs.scale.both.Reads as both-reads
-use Rattle.decimal.proofs.scale.excess.Reads as excess-reads
-use Rattle.decimal.proofs.scale.over_long.Reads as over-long-reads
-use Rattle.decimal.proofs.scale.place_of.Reads as place-of-reads
-use Rattle.decimal.proofs.scale.times_long.Reads as times-long-reads
 use Rattle.decimal.proofs.scale.cut_at.Goals as goal
 
 pub place_of-w-requires : goal.place_of-w-requires

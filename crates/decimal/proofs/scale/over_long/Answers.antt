@@ -1,10 +1,6 @@
 -- src/scale.rt:55:50
 use borrow.Author.Rules.{rules}
 use Rattle.decimal.proofs.Powers.{big_pos, over_both, even_both}
-use Rattle.decimal.proofs.scale.over_long.Reads as reads
-use Rattle.decimal.proofs.scale.over_long.Lts as lts
-use Rattle.decimal.proofs.limbs.over_power.Reads as over-power-reads
-use Rattle.decimal.proofs.scale.both.Reads as both-reads
 use Rattle.decimal.proofs.scale.over_long.Goals as goal
 
 pub nonzero_div-n : goal.nonzero_div-n

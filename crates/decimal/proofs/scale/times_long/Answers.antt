@@ -1,9 +1,6 @@
 -- src/scale.rt:46:39
 use borrow.Author.Rules.{rules}
 use Rattle.decimal.proofs.Powers.{big_pos, long_room, long_rest, times_both}
-use Rattle.decimal.proofs.scale.times_long.Reads as reads
-use Rattle.decimal.proofs.scale.times_long.Lts as lts
-use Rattle.decimal.proofs.limbs.times_power.Reads as times-power-reads
 use Rattle.decimal.proofs.scale.times_long.Goals as goal
 
 pub nonzero_div-n : goal.nonzero_div-n

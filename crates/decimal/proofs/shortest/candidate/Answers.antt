@@ -3,10 +3,6 @@ use borrow.Author.Rules.{rules}
 use mathlib.Core.Path.{sym, ◌∙◌}
 use Rattle.decimal.specs.Shortest.{candidate_of}
 use Rattle.decimal.proofs.Digits.{next_few, above_few, below_few}
-use Rattle.decimal.proofs.shortest.candidate.Reads as reads
-use Rattle.decimal.proofs.shortest.candidate.Lts as lts
-use Rattle.decimal.proofs.shortest.first_in.Reads as first-in-reads
-use Rattle.decimal.proofs.shortest.up_first.Reads as up-first-reads
 use Rattle.decimal.proofs.shortest.candidate.Goals as goal
 
 pub nonzero_div-d : goal.nonzero_div-d

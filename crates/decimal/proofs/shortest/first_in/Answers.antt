@@ -1,9 +1,6 @@
 -- src/shortest.rt:130:18
 use borrow.Author.Rules.{rules}
 use mathlib.Core.Path.{sym, ◌∙◌}
-use Rattle.decimal.proofs.shortest.first_in.Reads as reads
-use Rattle.decimal.proofs.shortest.first_in.Lts as lts
-use Rattle.decimal.proofs.shortest.inside.Reads as inside-reads
 use Rattle.decimal.proofs.shortest.first_in.Goals as goal
 
 pub overflow_mul-p : goal.overflow_mul-p

@@ -1,9 +1,6 @@
 -- src/shortest.rt:139:1
-use borrow.Author.Rules.{rules}
 use borrow.Author.Tests.{le-leb, lt-leb}
 use Rattle.decimal.specs.Shortest.{inside_of}
-use Rattle.decimal.proofs.shortest.inside.Reads as reads
-use Rattle.decimal.proofs.shortest.inside.Lts as lts
 use Rattle.decimal.proofs.shortest.inside.Goals as goal
 
 pub returns-then-s-d : goal.returns-then-s-d

@@ -1,7 +1,5 @@
 -- src/shortest.rt:77:38
 use borrow.Author.Rules.{rules}
-use Rattle.decimal.proofs.shortest.least_of.Reads as reads
-use Rattle.decimal.proofs.shortest.least_of.Lts as lts
 use Rattle.decimal.proofs.shortest.least_of.Goals as goal
 
 pub overflow_add-result : goal.overflow_add-result

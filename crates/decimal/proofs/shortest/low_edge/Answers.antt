@@ -1,7 +1,5 @@
 -- src/shortest.rt:68:17
 use borrow.Author.Rules.{rules}
-use Rattle.decimal.proofs.shortest.low_edge.Reads as reads
-use Rattle.decimal.proofs.shortest.low_edge.Lts as lts
 use Rattle.decimal.proofs.shortest.low_edge.Goals as goal
 
 pub overflow_mul-result : goal.overflow_mul-result

@@ -1,7 +1,5 @@
 -- src/shortest.rt:91:21
 use borrow.Author.Rules.{rules}
-use Rattle.decimal.proofs.shortest.most_of.Reads as reads
-use Rattle.decimal.proofs.shortest.most_of.Lts as lts
 use Rattle.decimal.proofs.shortest.most_of.Goals as goal
 
 pub overflow_sub-result : goal.overflow_sub-result

@@ -1,12 +1,6 @@
-use borrow.Author.Rules.{rules}
-use mathlib.Core.Path.{◌≡◌, refl, sym, ◌∙◌}
+use mathlib.Core.Path.{◌≡◌}
 use Prim.Native.Nat.{◌^◌, ◌≤◌}
-use native.Mathlib.Omega.{arith}
 use Rattle.decimal.specs.Shortest.{number_of}
-use Rattle.decimal.proofs.Digits.{ten_pos, ten_few, ten_less, number_found, number_next}
-use Rattle.decimal.proofs.shortest.shortest.Reads as reads
-use Rattle.decimal.proofs.shortest.shortest.Lts as lts
-use Rattle.decimal.proofs.shortest.candidate.Reads as candidate-reads
 use Rattle.decimal.proofs.shortest.shortest.Given as goal
 
 abbrev pub invariant-loop-k : goal.invariant-loop-k

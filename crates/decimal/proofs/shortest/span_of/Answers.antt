@@ -9,12 +9,6 @@ use Rattle.decimal.specs.Scale.{cut_of}
 use Rattle.decimal.specs.Shortest.{span_of, least_of, most_of}
 use Rattle.decimal.proofs.Units.{whole_few, whole_many}
 use Rattle.decimal.proofs.Digits.{edge_few, positive}
-use Rattle.decimal.proofs.shortest.span_of.Reads as reads
-use Rattle.decimal.proofs.shortest.span_of.Lts as lts
-use Rattle.decimal.proofs.scale.cut_at.Reads as cut-at-reads
-use Rattle.decimal.proofs.shortest.least_of.Reads as least-of-reads
-use Rattle.decimal.proofs.shortest.low_edge.Reads as low-edge-reads
-use Rattle.decimal.proofs.shortest.most_of.Reads as most-of-reads
 use Rattle.decimal.proofs.shortest.span_of.Goals as goal
 
 pub overflow_mul-m : goal.overflow_mul-m

@@ -3,8 +3,6 @@ use borrow.Author.Rules.{rules}
 use borrow.Author.Tests.{eq-eqb, ne_eqb}
 use Rattle.decimal.specs.Shortest.{up_first}
 use Rattle.decimal.proofs.Digits.{twice_rest}
-use Rattle.decimal.proofs.shortest.up_first.Reads as reads
-use Rattle.decimal.proofs.shortest.up_first.Lts as lts
 use Rattle.decimal.proofs.shortest.up_first.Goals as goal
 
 pub nonzero_rem-rest : goal.nonzero_rem-rest

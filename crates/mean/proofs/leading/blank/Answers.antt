@@ -1,5 +1,5 @@
 -- `mean::leading::blank` meets its contract.
-use Rattle.std.proofs.Common.{◌≡◌, ◌-◌, ◌≤◌, Bool, ◌&&◌, eqb, get_or, take, sym, refl, ap, ◌∙◌, arith, rules}
+use Rattle.std.proofs.Common.{◌≡◌, Bool, ◌&&◌, eqb, get_or, sym, refl, ap, ◌∙◌, arith, rules}
 use Rattle.exact.specs.Limbs.{value}
 use Rattle.mean.proofs.Places.{blank_more}
 use Rattle.mean.proofs.leading.blank.Goals as goal

@@ -1,6 +1,5 @@
-use Rattle.std.proofs.Common.{◌≡◌, ◌-◌, ◌≤◌, Bool, ◌&&◌, eqb, get_or, take, sym, refl, ap, ◌∙◌, arith, rules}
+use Rattle.std.proofs.Common.{◌≡◌, ◌≤◌, eqb, take}
 use Rattle.exact.specs.Limbs.{value}
-use Rattle.mean.proofs.Places.{blank_more}
 use Rattle.mean.proofs.leading.blank.Given as goal
 
 abbrev pub invariant-loop-i : goal.invariant-loop-i

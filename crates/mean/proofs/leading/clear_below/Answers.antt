@@ -1,5 +1,5 @@
 -- `mean::leading::clear_below` meets its contract.
-use Rattle.std.proofs.Common.{◌≡◌, ℕ, ◌*◌, ◌%◌, ◌^◌, ◌<◌, ◌&&◌, eqb, sym, ◌∙◌, subst, mod-lt, one-mul, arith, lit<, pow_pos, shl_exact, rules}
+use Rattle.std.proofs.Common.{◌≡◌, ℕ, ◌*◌, ◌%◌, ◌^◌, ◌<◌, ◌&&◌, eqb, sym, ◌∙◌, subst, mod-lt, one-mul, arith, lit<, pow_pos, shl_exact}
 use Rattle.mean.proofs.Places.{clear_is}
 use Rattle.mean.proofs.leading.clear_below.Goals as goal
 

@@ -1,5 +1,5 @@
 -- `mean::leading::dropped` meets its contract.
-use Rattle.std.proofs.Common.{◌≡◌, ℕ, ◌+◌, ◌-◌, ◌*◌, ◌≤◌, get_or, sym, ◌∙◌, arith, lit≤, rules}
+use Rattle.std.proofs.Common.{◌≡◌, ℕ, ◌+◌, ◌-◌, ◌*◌, ◌≤◌, get_or, sym, ◌∙◌, arith, lit≤}
 use lib.Count.{count_leading_zeros, leading_le}
 use Rattle.mean.proofs.Places.{dropped_is}
 use Rattle.mean.proofs.leading.dropped.Goals as goal

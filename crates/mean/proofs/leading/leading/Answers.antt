@@ -1,5 +1,5 @@
 -- `mean::leading::leading` meets its contract.
-use Rattle.std.proofs.Common.{ℕ, ◌+◌, ◌/◌, ◌%◌, ◌^◌, ◌<◌, Bool, ◌&&◌, eqb, sym, ap, ◌∙◌, subst, arith, rules}
+use Rattle.std.proofs.Common.{ℕ, ◌+◌, ◌/◌, ◌%◌, ◌^◌, ◌<◌, Bool, ◌&&◌, eqb, sym, ap, ◌∙◌, subst, arith}
 use Rattle.exact.specs.Limbs.{value}
 use Rattle.mean.specs.Leading.{marked}
 use Rattle.mean.proofs.Places.{kept_short, marked_short}

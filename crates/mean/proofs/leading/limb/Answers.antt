@@ -1,5 +1,5 @@
 -- `mean::leading::limb` meets its contract.
-use Rattle.std.proofs.Common.{sym, rules}
+use Rattle.std.proofs.Common.{sym}
 use lib.ListN.{get_or-eq_default}
 use Rattle.mean.proofs.leading.limb.Goals as goal
 

@@ -1,5 +1,4 @@
 -- `mean::leading::mark` meets its contract.
-use Rattle.std.proofs.Common.{rules}
 use Rattle.mean.proofs.leading.mark.Goals as goal
 
 pub returns-else-clear : goal.returns-else-clear

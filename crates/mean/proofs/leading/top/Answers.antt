@@ -1,6 +1,6 @@
 -- `mean::leading::top` meets its contract.
 -- a limb of 0 under limbs of 0
-use Rattle.std.proofs.Common.{◌≡◌, ℕ, ◌+◌, ◌-◌, ◌*◌, ◌^◌, ◌<◌, ◌≤◌, List, get_or, drop, ap, ◌∙◌, inl, inr, arith, rules}
+use Rattle.std.proofs.Common.{◌≡◌, ℕ, ◌+◌, ◌-◌, ◌*◌, ◌^◌, ◌<◌, List, get_or, drop, ap, ◌∙◌, inl, inr, arith, rules}
 use Rattle.exact.specs.Limbs.{value}
 use Rattle.exact.proofs.Order.{none_past}
 use Rattle.mean.proofs.Turns.{value-drop}

@@ -1,7 +1,5 @@
-use Rattle.std.proofs.Common.{◌≡◌, ℕ, ◌+◌, ◌-◌, ◌*◌, ◌^◌, ◌<◌, ◌≤◌, List, get_or, drop, ap, ◌∙◌, inl, inr, arith, rules}
+use Rattle.std.proofs.Common.{◌≡◌, ◌+◌, ◌≤◌, drop}
 use Rattle.exact.specs.Limbs.{value}
-use Rattle.exact.proofs.Order.{none_past}
-use Rattle.mean.proofs.Turns.{value-drop}
 use Rattle.mean.proofs.leading.top.Given as goal
 
 abbrev pub invariant-loop-h : goal.invariant-loop-h

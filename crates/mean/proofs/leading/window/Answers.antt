@@ -1,5 +1,5 @@
 -- `mean::leading::window` meets its contract.
-use Rattle.std.proofs.Common.{◌≡◌, ℕ, ◌+◌, ◌*◌, ◌/◌, ◌^◌, ◌<◌, arith, rules}
+use Rattle.std.proofs.Common.{◌≡◌, ℕ, ◌+◌, ◌*◌, ◌/◌, ◌^◌, ◌<◌, arith}
 use Rattle.exact.specs.Limbs.{value}
 use Rattle.mean.proofs.Places.{low_of, high_of, window_is}
 use Rattle.mean.proofs.leading.window.Goals as goal

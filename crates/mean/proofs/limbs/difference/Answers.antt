@@ -1,7 +1,7 @@
 -- `mean::limbs::difference` meets its contract.
-use Rattle.std.proofs.Common.{◌-◌, ◌≤◌, length, ap, ◌∙◌, arith, rules}
+use Rattle.std.proofs.Common.{length, ap, ◌∙◌, arith, rules}
 use Rattle.exact.specs.Laws.Limbs.{length_limbs}
-use Rattle.mean.proofs.Turns.{Lessened, lessened_start, lessened_more, lessened_end}
+use Rattle.mean.proofs.Turns.{lessened_start, lessened_more, lessened_end}
 use Rattle.mean.proofs.limbs.difference.Goals as goal
 
 pub loop-i-init : goal.loop-i-init

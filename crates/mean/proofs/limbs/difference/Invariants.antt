@@ -1,6 +1,5 @@
-use Rattle.std.proofs.Common.{◌-◌, ◌≤◌, length, ap, ◌∙◌, arith, rules}
-use Rattle.exact.specs.Laws.Limbs.{length_limbs}
-use Rattle.mean.proofs.Turns.{Lessened, lessened_start, lessened_more, lessened_end}
+use Rattle.std.proofs.Common.{◌≤◌}
+use Rattle.mean.proofs.Turns.{Lessened}
 use Rattle.mean.proofs.limbs.difference.Given as goal
 
 abbrev pub invariant-loop-i : goal.invariant-loop-i

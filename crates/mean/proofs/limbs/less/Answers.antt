@@ -1,5 +1,5 @@
 -- `mean::limbs::less` meets its contract.
-use Rattle.std.proofs.Common.{◌≡◌, ℕ, ◌+◌, ◌*◌, ◌^◌, ◌<◌, ◌≤◌, arith, rules}
+use Rattle.std.proofs.Common.{◌≡◌, ℕ, ◌+◌, ◌*◌, ◌^◌, ◌<◌, ◌≤◌, arith}
 use Rattle.mean.proofs.Words.{lessened}
 use Rattle.mean.proofs.limbs.less.Goals as goal
 

@@ -1,6 +1,6 @@
 -- `mean::limbs::over` meets its contract.
-use Rattle.std.proofs.Common.{◌≡◌, ◌-◌, ◌≤◌, length, arith, rules}
-use Rattle.mean.proofs.Turns.{Lowered, lowered_start, lowered_turn, lowered_end}
+use Rattle.std.proofs.Common.{◌≡◌, arith, rules}
+use Rattle.mean.proofs.Turns.{lowered_start, lowered_turn, lowered_end}
 use Rattle.mean.proofs.limbs.over.Goals as goal
 
 pub loop-i-init : goal.loop-i-init

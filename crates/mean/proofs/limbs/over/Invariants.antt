@@ -1,5 +1,5 @@
-use Rattle.std.proofs.Common.{◌≡◌, ◌-◌, ◌≤◌, length, arith, rules}
-use Rattle.mean.proofs.Turns.{Lowered, lowered_start, lowered_turn, lowered_end}
+use Rattle.std.proofs.Common.{◌≤◌, length}
+use Rattle.mean.proofs.Turns.{Lowered}
 use Rattle.mean.proofs.limbs.over.Given as goal
 
 abbrev pub invariant-loop-i : goal.invariant-loop-i

@@ -1,5 +1,5 @@
 -- `mean::limbs::part` meets its contract.
-use Rattle.std.proofs.Common.{◌+◌, ◌*◌, ◌/◌, ◌%◌, ◌<◌, mod-lt, arith, rules}
+use Rattle.std.proofs.Common.{◌+◌, ◌*◌, ◌/◌, ◌%◌, ◌<◌, mod-lt, arith}
 use Rattle.mean.proofs.Words.{half, quotient_few, dividend_fits, joined}
 use Rattle.mean.proofs.limbs.part.Goals as goal
 

@@ -1,5 +1,5 @@
 -- `mean::pack::packed` meets its contract.
-use Rattle.std.proofs.Common.{◌≡◌, ℕ, ◌+◌, ◌*◌, ◌%◌, ◌^◌, ◌<◌, ◌≤◌, Bool, true, false, cond, not, T, sym, ap, ◌∙◌, subst, arith, rules, le-ltb}
+use Rattle.std.proofs.Common.{◌≡◌, ℕ, ◌+◌, ◌*◌, ◌%◌, ◌^◌, ◌<◌, ◌≤◌, Bool, true, false, cond, not, T, sym, ap, ◌∙◌, subst, arith, le-ltb}
 use native.Mathlib.Nat.{min-le_right}
 use lib.Ieee.{binary64, of_bits, nan_bits}
 use lib.Ieee.Bits.{nan_bits_above}
