@@ -91,19 +91,19 @@ once a b p = omega arith
 pub sin_above : (x : Float) → lt (fin false 1 (pos 20)) x ≡ true → sin_far x ≡ sin_of x
 unfolding lt sin_far
 sin_above nan h = absurd (true≢false (sym h))
-sin_above (inf s) h = sym (values.sin-infinity s)
+sin_above (inf s) h = sym (values.sin_infinity s)
 sin_above (fin true m e) h = absurd (true≢false (sym h))
-sin_above (fin false m e) h = sym (values.sin-refused (fin false m e) tt (more (m * up e) (down e) (ltb-true (2 ^ 20 * down e) (m * up e * 1) h)))
+sin_above (fin false m e) h = sym (values.sin_refused (fin false m e) tt (more (m * up e) (down e) (ltb-true (2 ^ 20 * down e) (m * up e * 1) h)))
 
 pub sin_below : (x : Float) → lt x (fin true 1 (pos 20)) ≡ true → sin_far x ≡ sin_of x
 unfolding lt sin_far
 sin_below nan h = absurd (true≢false (sym h))
-sin_below (inf s) h = sym (values.sin-infinity s)
+sin_below (inf s) h = sym (values.sin_infinity s)
 sin_below (fin false m e) h = absurd (true≢false (sym h))
-sin_below (fin true m e) h = sym (values.sin-refused (fin true m e) tt (more (m * up e) (down e) (ltb-true (2 ^ 20 * down e) (m * up e * 1) h)))
+sin_below (fin true m e) h = sym (values.sin_refused (fin true m e) tt (more (m * up e) (down e) (ltb-true (2 ^ 20 * down e) (m * up e * 1) h)))
 
 pub sin_nan : (x : Float) → ne x x ≡ true → Value x ≡ sin_of x
-sin_nan x h = subst (λ (y : Float). Value y ≡ sin_of y) (sym (differs_from_itself x (subst T (sym h) tt))) (sym values.sin-nan)
+sin_nan x h = subst (λ (y : Float). Value y ≡ sin_of y) (sym (differs_from_itself x (subst T (sym h) tt))) (sym values.sin_nan)
 
 pub sin_in_range : (x : Float) → ne x x ≡ false → lt (fin false 1 (pos 20)) x ≡ false → lt x (fin true 1 (pos 20)) ≡ false → SinRange x
 unfolding lt

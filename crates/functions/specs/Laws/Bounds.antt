@@ -45,9 +45,9 @@ ln_close x F p =
     let l = g.4 in
     let e = leading-law.scaled (num x) g.2 (den x) q c g.3 l in
     let h = nat_le (3 * 2 ^ 51) q in
-    let r = leading-law.in-range q l.least l.most in
+    let r = leading-law.in_range q l.least l.most in
     subst (λ (y : Float). LnClose x y) (sym (ln_sum x p))
-    (subst (λ (y : Float). LnClose x y) (sym (leading-law.answer-is x g.2 q c g.3 l))
+    (subst (λ (y : Float). LnClose x y) (sym (leading-law.answer_is x g.2 q c g.3 l))
     (record {
       place = place_of c h;
       least = ln-law.least (num x) (den x) c q h (den_pos x) e r l.few;

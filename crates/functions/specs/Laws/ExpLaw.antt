@@ -175,7 +175,7 @@ module _ (n d : ℕ) (dp : 0 < d) where
   sum_room s b l h = let r = sum_of_word (left_of ell n d / d) f_small s in room_wide b (fixed_exp s (left_of ell n d / d)) l h r.0 r.1
 
   fixed : (s : Bool) → Fixed 62 10 (fixed_exp s (left_of ell n d / d)) (power_sum s (left_of ell n d) (2 ^ 64 * d))
-  fixed s = sum_fixed (left_of ell n d) (2 ^ 64 * d) (left_of ell n d / d) (reduced.word_low ell n d modulus_pos dp) (reduced.word-high ell n d modulus_pos dp) f_small s
+  fixed s = sum_fixed (left_of ell n d) (2 ^ 64 * d) (left_of ell n d / d) (reduced.word_low ell n d modulus_pos dp) (reduced.word_high ell n d modulus_pos dp) f_small s
 
 -- ---- the scale: 1085 is 62 and 1023
 up_scale : (k v x z : ℕ) → x * 2 ^ 1085 ≡ v * 2 ^ (1023 + k) * z → x * 2 ^ 62 ≡ v * (z * 2 ^ k)

@@ -130,7 +130,7 @@ module _ (n d : ℕ) (dp : 0 < d) where
       go f p = omega arith
 
   fixed : (t : Bool) → Fixed 62 10 (cond t (sine_word (left_of quarter n d / d)) (cosine_word (left_of quarter n d / d))) (cond t (sine_sum false (left_of quarter n d) (2 ^ 64 * d)) (cosine_sum (left_of quarter n d) (2 ^ 64 * d)))
-  fixed t = wave_fixed (left_of quarter n d) (2 ^ 64 * d) (left_of quarter n d / d) (reduced.word_low quarter n d modulus_pos dp) (reduced.word-high quarter n d modulus_pos dp) f_small t
+  fixed t = wave_fixed (left_of quarter n d) (2 ^ 64 * d) (left_of quarter n d / d) (reduced.word_low quarter n d modulus_pos dp) (reduced.word_high quarter n d modulus_pos dp) f_small t
 
 word_lt : (p : ℕ) → p ≤ 2 ^ 62 → p < 2 ^ 64
 word_lt p h = omega arith
@@ -293,7 +293,7 @@ module _ (n d : ℕ) (dp : 0 < d) (small : 4 * n < d) where
   A = falling sine_words (upper (F / d) (F / d))
 
   near : Near A (sum_of (kept true sine_terms) (F * F) (G * G)) (sum_of (kept false sine_terms) (F * F) (G * G)) (355687428096000 * (G * G) ^ 8) (2 ^ 62)
-  near = sine_near F G (F / d) (reduced.word_low quarter n d (modulus_pos n d dp) dp) (reduced.word-high quarter n d (modulus_pos n d dp) dp) (f_small n d dp)
+  near = sine_near F G (F / d) (reduced.word_low quarter n d (modulus_pos n d dp) dp) (reduced.word_high quarter n d (modulus_pos n d dp) dp) (f_small n d dp)
 
   small_fixed : Fixed (62 + j) 10 (upper g A) (sine_sum false F G)
   unfolding alternating
@@ -350,7 +350,7 @@ small_close x f h =
     let d = den x in
     let dp = den_pos x in
     let X = sine_sum false (f_top quarter x) (f_bottom x) in
-    subst (λ (a : Fraction). FiniteWithin 40 (sin_small x) a) (sym (wave_is (sign x) (below_of quarter n d) (k_of quarter x) (f_top quarter x) (f_bottom x) (reduced.no-turns quarter n d (lit≤ tt) h) (reduced.no-side quarter n d (lit≤ tt) h)))
+    subst (λ (a : Fraction). FiniteWithin 40 (sin_small x) a) (sym (wave_is (sign x) (below_of quarter n d) (k_of quarter x) (f_top quarter x) (f_bottom x) (reduced.no_turns quarter n d (lit≤ tt) h) (reduced.no_side quarter n d (lit≤ tt) h)))
     (subst (λ (y : Float). FiniteWithin 40 (cond (nat_le (size (n * 2 ^ 1074 / d)) 1010) x (cond (sign x) (neg y) y)) (negated (sign x) X)) (sym (small_is n d dp h))
     (go (nat_le (size (n * 2 ^ 1074 / d)) 1010) (leb→le (size (n * 2 ^ 1074 / d)) 1010) (nleb→lt (size (n * 2 ^ 1074 / d)) 1010)))
   where

@@ -24,6 +24,9 @@ module _ (c : goal.Else-field-gt0) where
 less : (z : ℕ) → 12 ≤ z → 11 ≤ z
 less z h = omega arith
 
+short : (z : ℕ) → z ≤ 64 → z - 11 < 64
+short z h = omega arith
+
 pub returns-then-field-gt0 : goal.returns-then-field-gt0
 returns-then-field-gt0 c = normal_leads c.args.field c.args.digits c.if-field-gt0.true c.requires.0 c.requires.1
 

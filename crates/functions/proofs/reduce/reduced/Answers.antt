@@ -6,14 +6,11 @@ use Rattle.functions.specs.Laws.Fields.{with_field}
 use Rattle.functions.proofs.Quotients.{lower, higher, multiple, own, quarter}
 use Rattle.functions.proofs.reduce.reduced.Goals as goal
 
--- the size of the float in units of 2 ^ -62, divided
-quotient : (c : goal.After-divided-p) (n d : ℕ) → n * 2 ^ 1074 ≡ size_of c.args.field c.args.digits * d
-    → n * 2 ^ 62 ≡ (c.divided-p.result.k * c.args.m + c.divided-p.result.left) * d
-quotient c n d e =
-    let x = c.args.field in
-    let t = c.args.digits in
-    let far : 1021 ≤ x = omega arith in
-    multiple n d (t + 2 ^ 52) x far (e ∙ ap (λ (a : ℕ). a * d) (with_field x t (omega arith) ∙ ap (λ (a : ℕ). a * 2 ^ (x - 1)) (add_comm (2 ^ 52) t))) ∙ ap (λ (a : ℕ). a * d) c.divided-p.ensures.0
+-- the size of the float in units of 2 ^ -62, divided into k times the modulus m and what is left
+quotient : (m field digits k left : ℕ) → 1021 ≤ field → (digits + 2 ^ 52) * 256 * 2 ^ (field - 1021) ≡ k * m + left → (n d : ℕ) → n * 2 ^ 1074 ≡ size_of field digits * d
+    → n * 2 ^ 62 ≡ (k * m + left) * d
+quotient m x t k left far divided n d e =
+    multiple n d (t + 2 ^ 52) x far (e ∙ ap (λ (a : ℕ). a * d) (with_field x t (omega arith) ∙ ap (λ (a : ℕ). a * 2 ^ (x - 1)) (add_comm (2 ^ 52) t))) ∙ ap (λ (a : ℕ). a * d) divided
 
 pub returns-then-field-lt1021 : goal.returns-then-field-lt1021
 returns-then-field-lt1021 c = λ n d dp e.
@@ -29,10 +26,12 @@ overflow_add-result c =
 
 pub returns-then-p-m : goal.returns-then-p-m
 returns-then-p-m c = λ n d dp e.
-    let at = c.before.before.before in
-    lower at.args.m at.divided-p.result.k at.divided-p.result.left n d dp at.divided-p.ensures.1 (quotient at n d e) c.if-p-m.true
+    let a = c.args in
+    let p = c.divided-p in
+    lower a.m p.result.k p.result.left n d dp p.ensures.1 (quotient a.m a.field a.digits p.result.k p.result.left c.if-field-lt1021.false p.ensures.0 n d e) c.if-p-m.true
 
 pub returns-else-p-m : goal.returns-else-p-m
 returns-else-p-m c = λ n d dp e.
-    let at = c.before.before.before.before in
-    higher at.args.m at.divided-p.result.k at.divided-p.result.left n d dp at.divided-p.ensures.1 (quotient at n d e) c.if-p-m.false
+    let a = c.args in
+    let p = c.divided-p in
+    higher a.m p.result.k p.result.left n d dp p.ensures.1 (quotient a.m a.field a.digits p.result.k p.result.left c.if-field-lt1021.false p.ensures.0 n d e) c.if-p-m.false

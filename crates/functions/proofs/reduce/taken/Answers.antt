@@ -17,4 +17,4 @@ overflow_mul-high c = low_fits c.args.k _ c.requires.0 (high c.args.m c.requires
 
 pub returns : goal.returns
 returns c =
-    wraps_back c.wrapping_sub_u64.result c.args.k c.args.m c.args.a c.wrapping_add_u64.result c.wrapping_add_u64.ensures c.wrapping_sub_u64.ensures
+    wraps_back c.wrapping_sub_u64.result c.args.k c.args.m c.args.a c.wrapping_add_u64.result c.wrapping_add_u64.ensures.value c.wrapping_sub_u64.ensures.value

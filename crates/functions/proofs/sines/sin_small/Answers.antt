@@ -39,7 +39,7 @@ module _ (c : goal.Start) where
 
   more : 959 ≤ field → leb (size (units_of x)) 1010 ≡ false
   more h =
-      let l = leading.normal-leads field digits (one field h) (few field below) (digits_lt (to_bits binary64 x)) in
+      let l = leading.normal_leads field digits (one field h) (few field below) (digits_lt (to_bits binary64 x)) in
       lt-leb (size (units_of x)) 1010 (subst (λ (a : ℕ). 1010 < a) (sym (ap size units_are ∙ leading.size_is (size_of field digits) (digits + 2 ^ 52) (field + 52) l.same l.least l.most)) (far field h))
     where
       one : (n : ℕ) → 959 ≤ n → 1 ≤ n
