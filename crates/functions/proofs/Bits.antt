@@ -1,5 +1,5 @@
 -- A float's field and digits, as the code takes them out of its bit pattern. Assumes nothing.
-use Rattle.std.proofs.Common.{◌≡◌, ℕ, ◌*◌, ◌/◌, ◌%◌, ◌^◌, ◌<◌, ◌≤◌, T, sym, ap, ◌∙◌, subst, arith}
+use Rattle.std.proofs.Common.{◌≡◌, ℕ, ◌*◌, ◌/◌, ◌%◌, ◌^◌, ◌<◌, T, sym, ap, ◌∙◌}
 use lib.Bits.{bit_and, and_mask, mask_lt}
 use lib.Pow as pow
 use lib.Ieee.{Float, binary64, fits, to_bits}

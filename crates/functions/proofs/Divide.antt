@@ -1,6 +1,6 @@
 -- The division of start * N by m: the quotient of the leading digits, S N / D with S = start / 2 ^ 21 and D = m / 2 ^ 21 + 1, is right or one too small,
 -- and what is left comes out of wrapped arithmetic. Assumes nothing.
-use Rattle.std.proofs.Common.{◌≡◌, ℕ, suc, ◌+◌, ◌-◌, ◌*◌, ◌/◌, ◌%◌, ◌^◌, ◌<◌, ◌≤◌, sym, ap, ◌∙◌, subst, le_trans, lt_of_lt_of_le, lt_of_le_of_lt, mul-le-mul_right, mod-eq_of_lt, mul_assoc, mul_comm, mul-le-mul, lt_of_mul-lt-mul_right, mul-le-mul_left, mul-lt-mul_of_pos_right, div-mul-le_self, arith, lit<, lit≤, w64, Fits}
+use Rattle.std.proofs.Common.{◌≡◌, ℕ, suc, ◌+◌, ◌-◌, ◌*◌, ◌/◌, ◌%◌, ◌^◌, ◌<◌, ◌≤◌, sym, ap, ◌∙◌, subst, lt_of_le_of_lt, mul-le-mul_right, mul_comm, mul-le-mul, lt_of_mul-lt-mul_right, mul-le-mul_left, mul-lt-mul_of_pos_right, div-mul-le_self, arith, lit<, w64, Fits}
 use native.Mathlib.Nat.{lt-div-mul-add}
 
 -- a difference that is a word, from what it wraps to

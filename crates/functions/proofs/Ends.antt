@@ -1,17 +1,14 @@
 -- The tests by which ln and sin tell the inputs at which they take no sum: zeros, negatives, infinities, NaN, and for sin what lies beyond 2 ^ 20. Assumes nothing.
-use Rattle.std.proofs.Common.{◌≡◌, ℕ, zero, suc, ◌+◌, ◌*◌, ◌^◌, ◌<◌, ◌≤◌, Bool, true, false, cond, not, ◌||◌, T, eqb, ltb, leb, pos, sym, refl, ap, ◌∙◌, subst, true≢false, arith, lt→ltb, ltb-false, ltb-true, eq-eqb, eqb-true, le-leb}
+use Rattle.std.proofs.Common.{◌≡◌, ℕ, zero, suc, ◌*◌, ◌^◌, ◌<◌, ◌≤◌, Bool, true, false, cond, ◌||◌, T, eqb, pos, sym, refl, ap, ◌∙◌, subst, true≢false, arith, lt→ltb, ltb-false, ltb-true, eq-eqb, eqb-true}
 use mathlib.Core.Bool.{beq, and-eq-true_iff as both}
 use lib.Dec.{eqb-suc-zero}
-use lib.Ieee.{Float, nan, inf, fin, binary64, lt, eq, ne, is_nan, up, down, level, below}
+use lib.Ieee.{Float, nan, inf, fin, lt, eq, ne, up, down, level}
 use lib.Ieee.Fits.{up_pos}
 use lib.Ieee.Compare.{nan_differs, differs_from_itself}
-use lib.Ieee.Scale.{finite}
-use lib.Ieee.Positive.{num, den, positive}
-use borrow.Author.Tests.{lt-leb}
-use Rattle.functions.specs.declared.Sine.{Sine}
-use Rattle.functions.specs.declared.Sine.TheVariants.{Value, Refused}
+use lib.Ieee.Positive.{positive}
+use Rattle.functions.specs.declared.Sine.TheVariants.{Value}
 use Rattle.functions.specs.Ln.{ln_positive, ln_of}
-use Rattle.functions.specs.Sin.{pick, sin_near, sin_far, sin_of, SinRange}
+use Rattle.functions.specs.Sin.{sin_far, sin_of, SinRange}
 use Rattle.functions.specs.Laws.Values as values
 
 abbrev zero· : Float

@@ -1,5 +1,5 @@
 -- The reduction by a modulus m / 2 ^ 62, from the float's field and digits: what `reduced` works out is k, f and the side of `nearest_of`, `left_of` and `below_of`. Assumes nothing.
-use Rattle.std.proofs.Common.{◌≡◌, ℕ, ◌+◌, ◌-◌, ◌*◌, ◌/◌, ◌^◌, ◌<◌, ◌≤◌, Bool, true, false, ltb, sym, refl, ap, ◌∙◌, subst, lt_of_lt_of_le, le_of_lt, mul-le-mul_right, mul_assoc, mul_comm, lt_of_mul-lt-mul_right, mul-lt-mul_of_pos_right, mul-pos, sub-add_cancel, mul-div_cancel, arith, lit≤, pow_pos, pow_mono, pow-add, le-ltb, lt-ltb}
+use Rattle.std.proofs.Common.{◌≡◌, ℕ, ◌+◌, ◌-◌, ◌*◌, ◌/◌, ◌^◌, ◌<◌, ◌≤◌, Bool, true, false, ltb, sym, ap, ◌∙◌, subst, lt_of_lt_of_le, le_of_lt, mul-le-mul_right, mul_assoc, mul_comm, lt_of_mul-lt-mul_right, mul-lt-mul_of_pos_right, mul-pos, sub-add_cancel, mul-div_cancel, arith, lit≤, pow_pos, pow_mono, pow-add, le-ltb, lt-ltb}
 use native.Mathlib.Nat.{eq_of_mul-eq-mul_right, div-eq_of_lt-le, div-eq_of_lt}
 use lib.Ieee.Nearest.{div_same}
 use Rattle.functions.specs.Fraction.{apart}

@@ -3,7 +3,6 @@ use Rattle.std.specs.Prelude.{◌≡◌, ℕ, ◌+◌, ◌-◌, ◌*◌, ◌/◌
 use Rattle.std.specs.Float.{nan, inf, fin, binary64}
 use Rattle.std.specs.Float.Ieee.{unlike, lt}
 use Rattle.std.specs.Float.Ieee.Positive.{num, den}
-use Rattle.num.specs.Floats.{sign}
 use Rattle.functions.specs.Fraction.{Fraction, sum_of}
 use Rattle.functions.specs.Reduction.{nearest_of, left_of, below_of}
 use Rattle.functions.specs.Words.{horner, upper, packed}

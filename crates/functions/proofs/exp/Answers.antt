@@ -1,6 +1,6 @@
 -- `functions::exp` meets its contract. Assumes nothing.
-use Rattle.std.proofs.Common.{◌≡◌, true, T, sym, refl, subst}
-use lib.Ieee.{Float, nan, ne, of_bits, neg, div}
+use Rattle.std.proofs.Common.{◌≡◌, true, T, sym, subst}
+use lib.Ieee.{Float, ne, of_bits, neg, div}
 use lib.Ieee.Compare.{differs_from_itself}
 use Rattle.functions.specs.Exp.{exp_of}
 use Rattle.functions.specs.Laws.Values.{exp_nan, exp_above, exp_below}

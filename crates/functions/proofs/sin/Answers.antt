@@ -1,5 +1,5 @@
 -- `functions::sin` meets its contract. Assumes nothing.
-use Rattle.std.proofs.Common.{sym, ap, ◌∙◌, rules}
+use Rattle.std.proofs.Common.{sym, ap, ◌∙◌}
 use lib.Ieee.{of_bits, neg}
 use Rattle.functions.specs.declared.Sine.TheVariants.{Value}
 use Rattle.functions.proofs.Ends.{sin_above, sin_below, sin_nan, sin_in_range}

@@ -1,5 +1,5 @@
 -- `functions::sin_far` meets its contract. Assumes nothing.
-use Rattle.std.proofs.Common.{◌≡◌, sym, ◌∙◌, rules}
+use Rattle.std.proofs.Common.{sym, ◌∙◌}
 use lib.Ieee.{div, of_bits}
 use Rattle.functions.specs.Sin.{sin_far}
 use Rattle.functions.proofs.sin_far.Goals as goal

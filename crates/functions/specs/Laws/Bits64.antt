@@ -1,5 +1,5 @@
 -- The numbers that the bit patterns of an `f64` stand for. Assumes nothing.
-use Rattle.std.specs.Prelude.{◌≡◌, ℕ, zero, suc, ◌+◌, ◌-◌, ◌*◌, ◌/◌, ◌%◌, ◌^◌, ◌<◌, ◌≤◌, Bool, true, false, cond, not, T, leb, ◌==◌, ◌≢◌, nat_le, refl, Float}
+use Rattle.std.specs.Prelude.{◌≡◌, ℕ, suc, ◌+◌, ◌-◌, ◌*◌, ◌/◌, ◌%◌, ◌^◌, ◌<◌, ◌≤◌, Bool, false, cond, not, T, leb, ◌==◌, ◌≢◌, nat_le, refl, Float}
 use Rattle.std.proofs.Common.{sym, ap, ◌∙◌, subst, inl, inr, not-le_of_lt, mod-eq_of_lt, eq-or-lt_of_le, mul_assoc, arith, leb→le, eqb→eq, lit<, lit≤}
 use Rattle.std.proofs.Math.Nat.{pow-succ'}
 use Rattle.std.proofs.Math.Dec.{not_T}

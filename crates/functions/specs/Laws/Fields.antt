@@ -1,6 +1,6 @@
 -- A float by its bit pattern: the exponent's field and the digits give its size, in units of 2 ^ -1074. Assumes nothing.
 use Rattle.std.specs.Prelude.{◌≡◌, ℕ, zero, suc, ◌+◌, ◌-◌, ◌*◌, ◌/◌, ◌%◌, ◌^◌, ◌<◌, ◌≤◌, Bool, true, false, cond, not, T, ◌==◌, from_bits, nat_le, to_bits, refl, Float}
-use Rattle.std.proofs.Common.{sym, ap, ◌∙◌, subst, true≢false, le_trans, lt_of_lt_of_le, not-le_of_lt, lt_of_not-le, mul-le-mul, mul-le-mul_right, mul-lt-mul_of_pos_right, mod-lt, mul_assoc, mul_comm, mul-pos, zero-mul, lt_irrefl, arith, lit<, lit≤, pow-add, pow_pos, pow_mono, shr_lt}
+use Rattle.std.proofs.Common.{sym, ap, ◌∙◌, subst, true≢false, lt_of_lt_of_le, not-le_of_lt, lt_of_not-le, mul-le-mul, mul-le-mul_right, mul-lt-mul_of_pos_right, mod-lt, mul_comm, mul-pos, zero-mul, lt_irrefl, arith, lit<, pow-add, pow_pos, pow_mono, shr_lt}
 use Rattle.std.proofs.Math.Dec.{eqb-suc-zero}
 use Rattle.std.specs.Float.{nan, inf, fin, binary64}
 use Rattle.std.specs.Float.Ieee.{ne, is_nan, fits, of_fields}

@@ -1,6 +1,6 @@
 -- The 53 leading digits of a float above 0, and how many digits it has in units of 2 ^ -1074: from the field and the digits, a subnormal's moved up. Assumes nothing.
-use Rattle.std.specs.Prelude.{◌≡◌, ℕ, zero, suc, ◌+◌, ◌-◌, ◌*◌, ◌/◌, ◌%◌, ◌^◌, ◌<◌, ◌≤◌, Bool, true, false, not, T, nat_le, to_bits, refl, Float}
-use Rattle.std.proofs.Common.{sym, ap, ◌∙◌, subst, le_antisymm, lt_of_not-le, not-le_of_lt, mul-le-mul_right, mul-lt-mul_of_pos_right, lt_of_mul-lt-mul_right, le_of_mul-le-mul_right, mul_comm, mul_assoc, mul-div_cancel, sub-add_cancel, mod-lt, arith, leb→le, lit<, pow-add, pow_pos, pow_mono}
+use Rattle.std.specs.Prelude.{◌≡◌, ℕ, zero, suc, ◌+◌, ◌-◌, ◌*◌, ◌/◌, ◌%◌, ◌^◌, ◌<◌, ◌≤◌, Bool, true, false, not, T, nat_le, to_bits, Float}
+use Rattle.std.proofs.Common.{sym, ap, ◌∙◌, subst, le_antisymm, lt_of_not-le, not-le_of_lt, mul-le-mul_right, mul-lt-mul_of_pos_right, lt_of_mul-lt-mul_right, mul_comm, mul_assoc, mul-div_cancel, mod-lt, arith, leb→le, lit<, pow-add, pow_pos, pow_mono}
 use Rattle.std.proofs.Math.Nat.{pow-succ'}
 use Rattle.std.proofs.Math.Dec.{nleb→lt}
 use Rattle.std.specs.Int.Count.{count_leading_zeros}
@@ -11,7 +11,7 @@ use Rattle.std.specs.Float.Ieee.Digits.{size-lt, size-le}
 use Rattle.std.specs.Float.Ieee.Positive.{num, den, den_pos, positive, positive-finite}
 use Rattle.functions.specs.Words.{size_of, units_of}
 use Rattle.functions.specs.Ln.{leading_of, ln_answer, ln_positive, Digits}
-use Rattle.functions.specs.Laws.Packed.{Leads, leads}
+use Rattle.functions.specs.Laws.Packed.{leads}
 use Rattle.functions.specs.Laws.Fields.{with_field, at_fields, field_under, some_size}
 
 -- z is q * 2 ^ (c - 53), q of 53 digits

@@ -1,6 +1,6 @@
 -- The float that is packed from a fixed-point number p: its value is p, rounded, in the unit that the field says. Assumes nothing.
 use Rattle.std.specs.Prelude.{◌≡◌, ℕ, zero, suc, ◌+◌, ◌-◌, ◌*◌, ◌/◌, ◌%◌, ◌^◌, ◌<◌, ◌≤◌, Bool, true, false, cond, not, T, ◌==◌, nat_le, refl, Float}
-use Rattle.std.proofs.Common.{sym, ap, ◌∙◌, subst, mul-le-mul_right, mul-le-mul_left, mul-lt-mul_of_pos_right, le_of_mul-le-mul_right, mul_comm, sub-add_cancel, le_trans, arith, leb→le, lit<, lit≤, pow-add, pow_pos, le-leb}
+use Rattle.std.proofs.Common.{sym, ap, ◌∙◌, subst, mul-le-mul_right, mul-le-mul_left, mul-lt-mul_of_pos_right, le_of_mul-le-mul_right, sub-add_cancel, le_trans, arith, leb→le, lit<, lit≤, pow-add, pow_pos, le-leb}
 use Rattle.std.proofs.Math.Nat.{eq_of_mul-eq-mul_right}
 use Rattle.std.proofs.Math.Dec.{nleb→lt, eqb-suc-zero}
 use Rattle.std.specs.Int.Count.{count_leading_zeros}

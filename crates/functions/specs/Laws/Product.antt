@@ -1,7 +1,7 @@
 -- Products of words: how far the upper half of a product stands from the product of the numbers that the words stand for. Every law is over variables:
 -- a word A stands for the number S / W in units of 1 / P, to s of these units; Y for U / N in units of 1 / B. Assumes nothing.
-use Rattle.std.specs.Prelude.{ℕ, ◌+◌, ◌*◌, ◌/◌, ◌^◌, ◌<◌, ◌≤◌}
-use Rattle.std.proofs.Common.{le_trans, le_of_lt, mul-le-mul, mul-le-mul_left, mul-le-mul_right, le_of_mul-le-mul_right, div-mul-le_self, arith}
+use Rattle.std.specs.Prelude.{ℕ, ◌+◌, ◌*◌, ◌/◌, ◌<◌, ◌≤◌}
+use Rattle.std.proofs.Common.{le_of_lt, mul-le-mul, mul-le-mul_right, le_of_mul-le-mul_right, div-mul-le_self, arith}
 use Rattle.std.proofs.Math.Nat.{lt-div-mul-add}
 
 -- A Y / B stands for (S / W) (U / N), where U / N is at most σ / ρ: the units that A lacks shrink with it, from s to g

@@ -1,14 +1,13 @@
 -- The values of exp, ln and sin that no bound speaks of: at NaN, the infinities and the zeros, outside the ranges, and at 1 for ln. Clients cite them.
-use Rattle.std.specs.Prelude.{◌≡◌, ℕ, zero, suc, ◌*◌, ◌^◌, ◌<◌, Bool, true, false, cond, T, eqb, leb, ℤ, pos, negsuc, refl, Float}
-use Rattle.std.proofs.Common.{sym, ap, ◌∙◌}
+use Rattle.std.specs.Prelude.{◌≡◌, ℕ, suc, ◌*◌, ◌^◌, ◌<◌, Bool, true, false, cond, T, ℤ, pos, negsuc, refl, Float}
+use Rattle.std.proofs.Common.{ap, ◌∙◌}
 use Rattle.std.proofs.Math.Dec.{eqb-suc-zero}
 use Rattle.std.specs.Int.Count.{count_leading_zeros}
-use Rattle.std.specs.Float.{nan, inf, fin, binary64}
+use Rattle.std.specs.Float.{nan, inf, fin}
 use Rattle.std.specs.Float.Ieee.{lt, of_bits, size, up, down}
 use Rattle.std.specs.Float.Ieee.Scale.{finite}
 use Rattle.std.specs.Float.Ieee.Positive.{num, den}
 use Rattle.std.proofs.lemmas.Bool.{lt-leb}
-use Rattle.functions.specs.declared.Sine.{Sine}
 use Rattle.functions.specs.declared.Sine.TheVariants.{Value, Refused}
 use Rattle.functions.specs.Reduction.{nearest_of, left_of, below_of}
 use Rattle.functions.specs.Words.{horner, rounded, packed}

@@ -1,6 +1,5 @@
 -- `functions::exponential::even_sum` meets its contract. Assumes nothing.
 use Rattle.functions.specs.Words.{horner}
-use Rattle.std.proofs.Common.{rules}
 use Rattle.functions.proofs.exponential.even_sum.Goals as goal
 
 pub returns : goal.returns

@@ -1,10 +1,10 @@
 -- `functions::exponential::exp_near` meets its contract. Assumes nothing.
 -- a size of at most 709
-use Rattle.std.proofs.Common.{◌≡◌, ℕ, ◌+◌, ◌-◌, ◌*◌, ◌/◌, ◌^◌, ◌<◌, ◌≤◌, Bool, true, false, cond, not, sym, refl, ap, ◌∙◌, subst, le_trans, lt_of_le_of_lt, mul-le-mul_right, mul-lt-mul_of_pos_right, arith, lit<, lit≤, w64, Fits}
+use Rattle.std.proofs.Common.{◌≡◌, ℕ, ◌+◌, ◌-◌, ◌*◌, ◌^◌, ◌<◌, ◌≤◌, Bool, true, false, cond, not, sym, refl, ap, ◌∙◌, subst, le_trans, mul-le-mul_right, arith, lit<, lit≤, w64, Fits}
 use lib.Ieee.{Float, binary64, of_bits, unlike}
 use lib.Ieee.Positive.{num, den, den_pos}
 use Rattle.num.specs.Floats.{sign}
-use Rattle.functions.specs.Reduction.{nearest_of, left_of, below_of, k_of, f_top}
+use Rattle.functions.specs.Reduction.{nearest_of, below_of}
 use Rattle.functions.specs.Words.{packed, Room}
 use Rattle.functions.specs.Exp.{ell, fixed_exp, exp_size, exp_of, ExpRange}
 use Rattle.functions.specs.Laws.ExpLaw.{is_finite, up_to, down_to, in_range, k_up, k_down, f_small, sum_room}

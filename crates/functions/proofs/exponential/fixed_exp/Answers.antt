@@ -1,5 +1,5 @@
 -- `functions::exponential::fixed_exp` meets its contract. Assumes nothing.
-use Rattle.std.proofs.Common.{◌≡◌, ℕ, ◌+◌, ◌-◌, ◌*◌, ◌/◌, ◌^◌, ◌<◌, ◌≤◌, Bool, false, sym, refl, ap, ◌∙◌, subst, arith, w64, Fits, rules}
+use Rattle.std.proofs.Common.{◌≡◌, ℕ, ◌+◌, ◌*◌, ◌/◌, ◌^◌, ◌<◌, ◌≤◌, false, sym, ap, ◌∙◌, subst, arith, w64, Fits}
 use Rattle.functions.specs.Words.{horner, upper}
 use Rattle.functions.specs.Exp.{even_words, odd_words, fixed_exp}
 use Rattle.functions.specs.Laws.ExpLaw.{square_small, fits_minus, sum_of_word}

@@ -1,5 +1,5 @@
 -- `functions::logarithm::leading` meets its contract. Assumes nothing.
-use Rattle.std.proofs.Common.{◌≡◌, ℕ, zero, suc, ◌+◌, ◌-◌, ◌*◌, ◌%◌, ◌^◌, ◌<◌, ◌≤◌, sym, ap, subst, lt_of_lt_of_le, mod-eq_of_lt, arith, lit≤, w64, Fits, rules}
+use Rattle.std.proofs.Common.{◌≡◌, ℕ, ◌-◌, ◌*◌, ◌%◌, ◌^◌, ◌<◌, ◌≤◌, sym, subst, lt_of_lt_of_le, mod-eq_of_lt, arith, lit≤, w64, Fits}
 use lib.Count.{count_leading_zeros, leading_le}
 use Rattle.functions.specs.Words.{size_of}
 use Rattle.functions.specs.Laws.Leading.{Leading, normal_leads, subnormal_leads, zeros_many}

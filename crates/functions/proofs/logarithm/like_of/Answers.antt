@@ -1,4 +1,4 @@
-use Rattle.std.proofs.Common.{◌≡◌, Bool, true, false, refl, rules}
+use Rattle.std.proofs.Common.{◌≡◌, Bool, true, false, refl}
 use mathlib.Core.Bool.{beq}
 use Rattle.functions.proofs.logarithm.like_of.Goals as goal
 

@@ -1,5 +1,5 @@
 -- `functions::logarithm::ln_answer` meets its contract. Assumes nothing.
-use Rattle.std.proofs.Common.{◌≡◌, ℕ, ◌+◌, ◌*◌, ◌^◌, ◌<◌, ◌≤◌, Bool, true, false, cond, sym, ap, ◌∙◌, subst, arith, rules}
+use Rattle.std.proofs.Common.{◌≡◌, ℕ, ◌+◌, ◌^◌, ◌<◌, ◌≤◌, Bool, true, false, cond, sym, ap, ◌∙◌, subst, arith}
 use mathlib.Core.Bool.{beq}
 use lib.Ieee.{Float, neg}
 use Rattle.functions.specs.Fraction.{apart}

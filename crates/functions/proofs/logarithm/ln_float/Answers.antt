@@ -1,7 +1,7 @@
 -- `functions::logarithm::ln_float` meets its contract. Assumes nothing.
-use Rattle.std.proofs.Common.{◌≡◌, ℕ, ◌+◌, ◌-◌, ◌*◌, ◌/◌, ◌^◌, ◌<◌, ◌≤◌, Bool, true, false, cond, ltb, sym, ap, ◌∙◌, subst, arith, lit≤, w64, Fits, rules}
+use Rattle.std.proofs.Common.{◌≡◌, ℕ, ◌+◌, ◌-◌, ◌*◌, ◌/◌, ◌^◌, ◌<◌, ◌≤◌, Bool, true, false, cond, ltb, sym, ap, ◌∙◌, subst, arith, lit≤, w64, Fits}
 use lib.Ieee.{Float, binary64, neg, of_bits}
-use Rattle.functions.specs.Words.{packed, Room}
+use Rattle.functions.specs.Words.{packed}
 use Rattle.functions.specs.Exp.{ell}
 use Rattle.functions.specs.Ln.{unit_of, ln_size}
 use Rattle.functions.specs.Laws.Packed.{room}

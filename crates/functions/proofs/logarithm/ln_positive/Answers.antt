@@ -1,5 +1,5 @@
 -- `functions::logarithm::ln_positive` meets its contract. Assumes nothing.
-use Rattle.std.proofs.Common.{◌≡◌, ℕ, ◌+◌, ◌*◌, ◌/◌, ◌%◌, ◌^◌, ◌<◌, ◌≤◌, T, sym, ap, ◌∙◌, subst, arith}
+use Rattle.std.proofs.Common.{◌≡◌, ℕ, ◌*◌, ◌^◌, ◌<◌, ◌≤◌, T, sym, ◌∙◌, subst, arith}
 use lib.Ieee.{binary64, fits, to_bits}
 use lib.Ieee.Positive.{num, den, positive-finite}
 use Rattle.functions.specs.Laws.Fields.{number, field_under, some_size}

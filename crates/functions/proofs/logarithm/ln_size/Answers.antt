@@ -1,6 +1,6 @@
 -- `functions::logarithm::ln_size` meets its contract. Assumes nothing.
 -- L by its halves
-use Rattle.std.proofs.Common.{◌≡◌, ℕ, ◌+◌, ◌-◌, ◌*◌, ◌/◌, ◌%◌, ◌^◌, ◌<◌, ◌≤◌, Bool, true, false, sym, ap, ◌∙◌, subst, le-add_right, lt_of_le_of_lt, mod-eq_of_lt, mul_assoc, sub-add_cancel, arith, pow_pos, pow-add, w64, Fits, rules}
+use Rattle.std.proofs.Common.{◌≡◌, ℕ, ◌+◌, ◌-◌, ◌*◌, ◌/◌, ◌%◌, ◌^◌, ◌<◌, ◌≤◌, Bool, true, false, sym, ap, ◌∙◌, subst, le-add_right, lt_of_le_of_lt, mod-eq_of_lt, mul_assoc, sub-add_cancel, arith, pow_pos, pow-add, w64, Fits}
 use native.Mathlib.Nat.{mul-add-div_right}
 use Rattle.functions.specs.Exp.{ell}
 use Rattle.functions.specs.Ln.{ln_size}

@@ -1,5 +1,5 @@
 -- `functions::logarithm::ln_word` meets its contract. Assumes nothing.
-use Rattle.std.proofs.Common.{◌≡◌, ℕ, ◌*◌, ◌/◌, ◌^◌, ◌≤◌, sym, ap, ◌∙◌, subst, rules}
+use Rattle.std.proofs.Common.{ℕ, ◌*◌, ◌/◌, ◌^◌, ◌≤◌, sym, ap, ◌∙◌, subst}
 use Rattle.functions.specs.Words.{horner}
 use Rattle.functions.specs.Ln.{ln_words, ln_word}
 use Rattle.functions.specs.Laws.LnLaw.{square_small}

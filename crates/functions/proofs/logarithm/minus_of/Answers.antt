@@ -1,5 +1,5 @@
 -- `functions::logarithm::minus_of` meets its contract. Assumes nothing.
-use Rattle.std.proofs.Common.{◌≡◌, ℕ, Bool, cond, eqb, ltb, sym, refl, ap, ◌∙◌, arith, eq-eqb, ne_eqb}
+use Rattle.std.proofs.Common.{◌≡◌, ℕ, Bool, cond, ltb, sym, ap, arith, eq-eqb, ne_eqb}
 use Rattle.functions.specs.Fraction.{apart}
 use Rattle.functions.proofs.logarithm.minus_of.Goals as goal
 

@@ -1,4 +1,3 @@
-use Rattle.std.proofs.Common.{rules}
 use Rattle.functions.proofs.logarithm.place_of.Goals as goal
 
 pub returns-then-h : goal.returns-then-h

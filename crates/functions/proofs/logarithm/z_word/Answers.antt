@@ -1,5 +1,5 @@
 -- `functions::logarithm::z_word` meets its contract. Assumes nothing.
-use Rattle.std.proofs.Common.{◌≡◌, ℕ, ◌+◌, ◌*◌, ◌^◌, arith, rules}
+use Rattle.std.proofs.Common.{◌≡◌, ℕ, ◌+◌, ◌*◌, ◌^◌, arith}
 use Rattle.functions.proofs.Thrice.{joined, z_is}
 use Rattle.functions.proofs.logarithm.z_word.Goals as goal
 

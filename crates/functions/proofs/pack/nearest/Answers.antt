@@ -1,5 +1,5 @@
 -- `functions::pack::nearest` meets its contract. Assumes nothing.
-use Rattle.std.proofs.Common.{ℕ, ◌^◌, ◌<◌, not, T, sym, ap, subst, arith, rules}
+use Rattle.std.proofs.Common.{ℕ, ◌^◌, ◌<◌, not, T, sym, ap, subst, arith}
 use lib.Ieee.{binary64, of_bits, nan_bits}
 use Rattle.functions.specs.Laws.Packed.{packs_number}
 use Rattle.functions.proofs.pack.nearest.Goals as goal

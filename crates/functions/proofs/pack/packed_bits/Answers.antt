@@ -1,5 +1,5 @@
 -- `functions::pack::packed_bits` meets its contract. Assumes nothing.
-use Rattle.std.proofs.Common.{◌≡◌, ℕ, suc, ◌+◌, ◌-◌, ◌*◌, ◌/◌, ◌%◌, ◌^◌, ◌<◌, ◌≤◌, sym, refl, ap, ◌∙◌, subst, mod-eq_of_lt, arith, rules}
+use Rattle.std.proofs.Common.{◌≡◌, ℕ, suc, ◌+◌, ◌-◌, ◌*◌, ◌/◌, ◌%◌, ◌^◌, ◌<◌, sym, ap, ◌∙◌, mod-eq_of_lt, arith}
 use lib.Count.{count_leading_zeros, leading_top}
 use Rattle.functions.specs.Words.{packed}
 use Rattle.functions.specs.Laws.Packed.{leads, digits, some_packs}

@@ -1,7 +1,6 @@
 -- `functions::pack::signed` meets its contract. Assumes nothing.
-use Rattle.std.proofs.Common.{◌≡◌, ℕ, ◌+◌, ◌^◌, ◌<◌, Bool, true, false, cond, not, T, sym, ap, ◌∙◌, subst, add-zero, arith, w64, Fits, rules}
-use lib.Ieee.{Float, binary64, neg, of_bits, nan_bits, is_nan}
-use lib.Ieee.Bits.{nan_bits_is}
+use Rattle.std.proofs.Common.{◌≡◌, ℕ, ◌+◌, ◌^◌, ◌<◌, Bool, true, false, cond, not, T, sym, ap, ◌∙◌, subst, add-zero, arith, w64, Fits}
+use lib.Ieee.{binary64, neg, of_bits, nan_bits}
 use Rattle.functions.specs.Words.{packed, Room}
 use Rattle.functions.specs.Laws.Packed.{packed_lt, packs_number, bits_negated, packs_negated}
 use Rattle.functions.proofs.pack.signed.Goals as goal

@@ -1,6 +1,6 @@
 -- `functions::reduce::reduced` meets its contract. Assumes nothing.
 -- below 1/4
-use Rattle.std.proofs.Common.{◌≡◌, ℕ, ◌+◌, ◌-◌, ◌*◌, ◌^◌, ◌<◌, ◌≤◌, sym, ap, ◌∙◌, lt_of_lt_of_le, add_comm, arith, pow_mono, w64, Fits, rules}
+use Rattle.std.proofs.Common.{◌≡◌, ℕ, ◌+◌, ◌-◌, ◌*◌, ◌^◌, ◌<◌, ◌≤◌, ap, ◌∙◌, lt_of_lt_of_le, add_comm, arith, pow_mono, w64, Fits}
 use Rattle.functions.specs.Words.{size_of}
 use Rattle.functions.specs.Laws.Fields.{with_field}
 use Rattle.functions.proofs.Quotients.{lower, higher, multiple, own, quarter}

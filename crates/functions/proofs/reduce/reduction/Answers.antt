@@ -1,5 +1,5 @@
 -- `functions::reduce::reduction` meets its contract. Assumes nothing.
-use Rattle.std.proofs.Common.{◌≡◌, ℕ, ◌+◌, ◌<◌, ◌≤◌, T, sym, subst, arith}
+use Rattle.std.proofs.Common.{ℕ, ◌<◌, ◌≤◌, T, sym, subst, arith}
 use lib.Ieee.{binary64, fits, to_bits}
 use lib.Ieee.Positive.{num, den, den_pos}
 use Rattle.functions.specs.Laws.Fields.{number, field_most, units_below}

@@ -1,5 +1,5 @@
 -- `functions::reduce::small` meets its contract. Assumes nothing.
-use Rattle.std.proofs.Common.{refl, arith, rules}
+use Rattle.std.proofs.Common.{refl, arith}
 use Rattle.functions.proofs.Quotients.{nothing, some}
 use Rattle.functions.proofs.reduce.small.Goals as goal
 

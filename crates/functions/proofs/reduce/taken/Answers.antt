@@ -1,5 +1,5 @@
 -- `functions::reduce::taken` meets its contract. Assumes nothing.
-use Rattle.std.proofs.Common.{ℕ, ◌/◌, ◌%◌, ◌^◌, ◌<◌, ◌≤◌, arith, rules}
+use Rattle.std.proofs.Common.{ℕ, ◌/◌, ◌%◌, ◌^◌, ◌<◌, ◌≤◌, arith}
 use Rattle.functions.proofs.Divide.{wraps_back, low_fits}
 use Rattle.functions.proofs.reduce.taken.Goals as goal
 

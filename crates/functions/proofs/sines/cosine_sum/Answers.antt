@@ -1,6 +1,5 @@
 -- `functions::sines::cosine_sum` meets its contract. Assumes nothing.
 use Rattle.functions.specs.Words.{falling}
-use Rattle.std.proofs.Common.{rules}
 use Rattle.functions.proofs.sines.cosine_sum.Goals as goal
 
 pub returns : goal.returns

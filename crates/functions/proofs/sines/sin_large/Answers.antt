@@ -1,11 +1,11 @@
 -- `functions::sines::sin_large` meets its contract. Assumes nothing.
-use Rattle.std.proofs.Common.{◌≡◌, ℕ, ◌*◌, ◌/◌, ◌%◌, ◌^◌, ◌<◌, ◌≤◌, Bool, true, false, cond, eqb, sym, ap, ◌∙◌, subst, lt_of_le_of_lt, mul-lt-mul_of_pos_right, arith, lit<, lit≤, rules}
+use Rattle.std.proofs.Common.{◌≡◌, ℕ, ◌/◌, ◌%◌, ◌^◌, ◌<◌, ◌≤◌, Bool, cond, eqb, sym, ap, ◌∙◌, subst, lt_of_le_of_lt, mul-lt-mul_of_pos_right, arith, lit<, lit≤}
 use lib.Ieee.{Float, binary64, of_bits, neg, unlike}
 use lib.Ieee.Positive.{num, den, den_pos}
 use Rattle.num.specs.Floats.{sign}
-use Rattle.functions.specs.Reduction.{nearest_of, left_of, below_of, k_of, f_top}
+use Rattle.functions.specs.Reduction.{below_of, k_of, f_top}
 use Rattle.functions.specs.Words.{packed}
-use Rattle.functions.specs.Sin.{quarter, wave_word, wave_side, sin_large, SinRange}
+use Rattle.functions.specs.Sin.{quarter, wave_word, wave_side, sin_large}
 use Rattle.functions.specs.Laws.Packed.{room}
 use Rattle.functions.specs.Laws.SinLaw.{word_most}
 use Rattle.functions.proofs.sines.sin_large.Goals as goal

@@ -1,6 +1,6 @@
 -- `functions::sines::sin_near` meets its contract. Assumes nothing.
 -- the code's test is the definition's
-use Rattle.std.proofs.Common.{◌≡◌, ℕ, ◌*◌, ◌^◌, ◌<◌, ◌≤◌, Bool, true, false, cond, T, ltb, sym, refl, ap, ◌∙◌, subst, not-le_of_lt, ltb→lt, rules, lt-ltb}
+use Rattle.std.proofs.Common.{◌≡◌, ℕ, ◌*◌, ◌^◌, ◌<◌, ◌≤◌, Bool, true, false, cond, T, ltb, sym, refl, ap, ◌∙◌, subst, not-le_of_lt, ltb→lt, lt-ltb}
 use lib.Ieee.{Float, binary64, to_bits}
 use lib.Ieee.Positive.{num, den, den_pos}
 use Rattle.functions.specs.Words.{size_of}

@@ -1,6 +1,6 @@
 -- `functions::sines::sin_small` meets its contract. Assumes nothing.
-use Rattle.std.proofs.Common.{◌≡◌, ℕ, suc, ◌+◌, ◌*◌, ◌/◌, ◌^◌, ◌<◌, ◌≤◌, Bool, true, false, cond, T, leb, sym, ap, ◌∙◌, subst, mul-div_cancel, arith, lit≤, le-leb}
-use lib.Ieee.{Float, binary64, fits, to_bits, neg, size}
+use Rattle.std.proofs.Common.{◌≡◌, ℕ, ◌+◌, ◌*◌, ◌/◌, ◌^◌, ◌<◌, ◌≤◌, Bool, true, false, cond, T, leb, sym, ap, ◌∙◌, subst, mul-div_cancel, arith, lit≤, le-leb}
+use lib.Ieee.{Float, binary64, to_bits, neg, size}
 use lib.Ieee.Digits.{size-le}
 use lib.Ieee.Positive.{num, den, den_pos}
 use borrow.Author.Tests.{lt-leb}

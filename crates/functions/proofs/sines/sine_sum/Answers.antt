@@ -1,6 +1,5 @@
 -- `functions::sines::sine_sum` meets its contract. Assumes nothing.
 use Rattle.functions.specs.Words.{falling}
-use Rattle.std.proofs.Common.{rules}
 use Rattle.functions.proofs.sines.sine_sum.Goals as goal
 
 pub returns : goal.returns

@@ -1,11 +1,10 @@
 -- `functions::sines::small_wave` meets its contract. Assumes nothing.
-use Rattle.std.proofs.Common.{◌≡◌, ℕ, ◌+◌, ◌-◌, ◌*◌, ◌/◌, ◌^◌, ◌<◌, ◌≤◌, Bool, cond, sym, refl, ap, ◌∙◌, subst, lt_of_le_of_lt, mul-div_cancel, arith, lit<, rules}
+use Rattle.std.proofs.Common.{◌≡◌, ℕ, ◌+◌, ◌-◌, ◌*◌, ◌/◌, ◌^◌, ◌<◌, Bool, cond, sym, refl, ap, ◌∙◌, mul-div_cancel, arith}
 use lib.Ieee.{Float, binary64, neg, of_bits, size}
 use Rattle.functions.specs.Words.{falling, upper, packed, size_of}
 use Rattle.functions.specs.Sin.{sine_words, small_size}
 use Rattle.functions.specs.Laws.Leading.{size_is, normal_leads}
 use Rattle.functions.specs.Laws.Packed.{room}
-use Rattle.functions.proofs.Halves.{upper_le}
 use Rattle.functions.proofs.Quotients.{some, own_digits}
 use Rattle.functions.proofs.sines.small_wave.Goals as goal
 

@@ -1,5 +1,5 @@
 -- `functions::sines::wave_side` meets its contract. Assumes nothing.
-use Rattle.std.proofs.Common.{◌%◌, rules, eq-eqb, ne_eqb}
+use Rattle.std.proofs.Common.{◌%◌, eq-eqb, ne_eqb}
 use Rattle.functions.specs.Sin.{wave_side}
 use Rattle.functions.proofs.sines.wave_side.Goals as goal
 

@@ -1,5 +1,5 @@
 -- `functions::sines::wave_word` meets its contract. Assumes nothing.
-use Rattle.std.proofs.Common.{◌≡◌, ℕ, ◌*◌, ◌/◌, ◌%◌, ◌^◌, ap, ◌∙◌, rules, eq-eqb, ne_eqb}
+use Rattle.std.proofs.Common.{ℕ, ◌*◌, ◌/◌, ◌%◌, ◌^◌, ap, ◌∙◌, eq-eqb, ne_eqb}
 use Rattle.functions.specs.Words.{falling}
 use Rattle.functions.specs.Sin.{sine_words, cosine_words, sine_word, cosine_word, wave_word}
 use Rattle.functions.proofs.sines.wave_word.Goals as goal

@@ -1,5 +1,5 @@
 -- `functions::word::less` meets its contract. Assumes nothing.
-use Rattle.std.proofs.Common.{◌≡◌, ℕ, ◌≤◌, sym, subst, le_trans, rules}
+use Rattle.std.proofs.Common.{ℕ, ◌≤◌, sym, subst, le_trans}
 use Rattle.functions.proofs.Halves.{upper_le_left}
 use Rattle.functions.proofs.word.less.Goals as goal
 

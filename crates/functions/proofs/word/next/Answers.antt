@@ -1,5 +1,5 @@
 -- `functions::word::next` meets its contract. Assumes nothing.
-use Rattle.std.proofs.Common.{◌≡◌, ℕ, ◌^◌, ◌≤◌, sym, subst, le_trans, rules}
+use Rattle.std.proofs.Common.{ℕ, ◌^◌, ◌≤◌, sym, subst, le_trans}
 use Rattle.functions.proofs.Halves.{upper_le, sum_fits}
 use Rattle.functions.proofs.word.next.Goals as goal
 
