@@ -15,19 +15,19 @@ use Rattle.savrunte.specs.declared.DiodeAnswer.{DiodeAnswer}
 use Rattle.savrunte.specs.declared.SinAnswer.{SinAnswer}
 use Rattle.savrunte.specs.declared.ConvergenceAnswer.{ConvergenceAnswer}
 
-unfoldable pub sinAnswer : Sine → SinAnswer
-sinAnswer s = let t = sine.numbersOf s in record { refusal = t.refusal; value = t.value }
+unfoldable pub sin_answer : Sine → SinAnswer
+sin_answer s = let t = sine.numbers_of s in record { refusal = t.refusal; value = t.value }
 
-unfoldable pub convergenceAnswer : Convergence → ConvergenceAnswer
-convergenceAnswer c = let t = convergence.numbersOf c in record { refusal = t.refusal; state = t.state }
+unfoldable pub convergence_answer : Convergence → ConvergenceAnswer
+convergence_answer c = let t = convergence.numbers_of c in record { refusal = t.refusal; state = t.state }
 
 -- of so many rows
-unfoldable pub judgeAnswer : ℕ → Judged → JudgeAnswer
-judgeAnswer rows j = let t = judge.numbersOf rows j in record { refusal = t.refusal; row = t.row }
+unfoldable pub judge_answer : ℕ → Judged → JudgeAnswer
+judge_answer rows j = let t = judge.numbers_of rows j in record { refusal = t.refusal; row = t.row }
 
 abbrev pub companion : Companion → CompanionAnswer
 companion c = record { g = c.g; i = c.i }
 
 -- of a diode with this memory
-unfoldable pub diodeAnswer : Float → Linear → DiodeAnswer
-diodeAnswer memory l = let t = diode.numbersOf memory l in record { verdict = t.verdict; g = t.g; i = t.i; memory = t.memory }
+unfoldable pub diode_answer : Float → Linear → DiodeAnswer
+diode_answer memory l = let t = diode.numbers_of memory l in record { verdict = t.verdict; g = t.g; i = t.i; memory = t.memory }

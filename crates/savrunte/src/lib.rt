@@ -1,4 +1,4 @@
-// The C door: each exported function is thin over a proved one, and its answer is that one's as numbers. The header is include/savrunte.h; `rt staticlib savrunte` makes the archive.
+// The door: each function is thin over a proved one, and its answer is that one's as numbers. The crate savrunte_c exports them to C under the same names; the header is include/savrunte.h.
 // Every function is total. On a refusal every other field of the answer is 0, but for the place. The numbers of each answer stand beside its enum, as `told`.
 ghost use Rattle.std.specs.Prelude.{◌≡◌, true, false, [], ◌/◌, length};
 ghost use Rattle.behind.specs.Behind.{behind_number};
@@ -15,11 +15,11 @@ ghost use Rattle.models.specs.Vpwl.{pattern_at, pattern_first_at, points_from};
 ghost use Rattle.judge.specs.Judge.{judge_of};
 ghost use Rattle.solve.specs.Solve.{solve_of, solved_as};
 ghost use Rattle.spreads.specs.Spreads.{results_of, scratch_of, batch_of, spreads_of, ScratchKept};
-ghost use Rattle.sound.specs.Sound.{results_of as soundResultsOf, call_of as soundCallOf, sound_of, ScratchKept as SoundScratchKept};
+ghost use Rattle.sound.specs.Sound.{results_of as sound_results_of, call_of as sound_call_of, sound_of, ScratchKept as SoundScratchKept};
 ghost use Rattle.savrunte.specs.Runs.{dc_answer, transient_answer, dc_of, dc_result, transient_of, transient_result};
 ghost use Rattle.savrunte.specs.Spreads.{spreads_answer, door_of, door_result};
 ghost use Rattle.savrunte.specs.Sound.{sound_answer, sound_door_of, sound_door_result};
-ghost use Rattle.savrunte.specs.Answers.{sinAnswer, convergenceAnswer, judgeAnswer, companion, diodeAnswer};
+ghost use Rattle.savrunte.specs.Answers.{sin_answer, convergence_answer, judge_answer, companion, diode_answer};
 
 use convergence::Convergence;
 use engine::Outcome;
@@ -118,8 +118,7 @@ pub struct SoundAnswer {
 }
 
 // The DC operating point of a sheet.
-#[unsafe(no_mangle)]
-pub extern "C" fn savrunte_dc(
+pub fn savrunte_dc(
     sheet: &[u8],
     points: &[u8],
     nodes: usize,
@@ -153,8 +152,7 @@ pub extern "C" fn savrunte_dc(
 }
 
 // The transient analysis of a sheet: DC first, then steps, whose rows go to `rows`.
-#[unsafe(no_mangle)]
-pub extern "C" fn savrunte_transient(
+pub fn savrunte_transient(
     sheet: &[u8],
     points: &[u8],
     nodes: usize,
@@ -190,8 +188,7 @@ pub extern "C" fn savrunte_transient(
 }
 
 // The first record whose diode is behind at this vector, with this memory: 0 for none, else 1 and its place.
-#[unsafe(no_mangle)]
-pub extern "C" fn savrunte_behind(
+pub fn savrunte_behind(
     sheet: &[u8],
     vector: &[f64],
     memory: &[f64],
@@ -203,8 +200,7 @@ pub extern "C" fn savrunte_behind(
 }
 
 // All spreads in one call: every job run, and the report over them.
-#[unsafe(no_mangle)]
-pub extern "C" fn savrunte_spreads(
+pub fn savrunte_spreads(
     sheets: &[u8],
     points: &[u8],
     jobs: usize,
@@ -257,8 +253,7 @@ pub extern "C" fn savrunte_spreads(
 }
 
 // All spreads in one call, with each job's cause where it is not sound, and a report over the sound ones beside that over the settled.
-#[unsafe(no_mangle)]
-pub extern "C" fn savrunte_sound_spreads(
+pub fn savrunte_sound_spreads(
     sheets: &[u8],
     points: &[u8],
     tolerances: &[f64],
@@ -281,13 +276,13 @@ pub extern "C" fn savrunte_sound_spreads(
     sound_plus: &mut [u64],
     sound_minus: &mut [u64],
 ) -> SoundAnswer
-    ensures all { sound_door_of result (soundResultsOf vectors.new causes.new places.new passes.new counts.new plus.new minus.new sound_plus.new sound_minus.new)
-        ≡ sound_door_result (sound_of (soundCallOf options jobs nodes sources unknown sheets.now points.now tolerances.now
+    ensures all { sound_door_of result (sound_results_of vectors.new causes.new places.new passes.new counts.new plus.new minus.new sound_plus.new sound_minus.new)
+        ≡ sound_door_result (sound_of (sound_call_of options jobs nodes sources unknown sheets.now points.now tolerances.now
         (scratch_of base.old system.old elimination.old memory.old)
-        (soundResultsOf vectors.old causes.old places.old passes.old counts.old plus.old minus.old sound_plus.old sound_minus.old))) }
-    ensures scratch { SoundScratchKept (soundCallOf options jobs nodes sources unknown sheets.now points.now tolerances.now
+        (sound_results_of vectors.old causes.old places.old passes.old counts.old plus.old minus.old sound_plus.old sound_minus.old))) }
+    ensures scratch { SoundScratchKept (sound_call_of options jobs nodes sources unknown sheets.now points.now tolerances.now
         (scratch_of base.old system.old elimination.old memory.old)
-        (soundResultsOf vectors.old causes.old places.old passes.old counts.old plus.old minus.old sound_plus.old sound_minus.old))
+        (sound_results_of vectors.old causes.old places.old passes.old counts.old plus.old minus.old sound_plus.old sound_minus.old))
         (scratch_of base.new system.new elimination.new memory.new) }
 {
     let r = sound::sound_spreads(
@@ -316,30 +311,26 @@ pub extern "C" fn savrunte_sound_spreads(
     sound_answer(r)
 }
 
-#[unsafe(no_mangle)]
-pub extern "C" fn savrunte_mean(plus: &[u64], minus: &[u64], count: u64) -> f64
+pub fn savrunte_mean(plus: &[u64], minus: &[u64], count: u64) -> f64
     ensures { result ≡ mean_of plus.now minus.now count }
 {
     mean::mean(plus, minus, count)
 }
 
-#[unsafe(no_mangle)]
-pub extern "C" fn savrunte_exp(x: f64) -> f64
+pub fn savrunte_exp(x: f64) -> f64
     ensures { result ≡ exp_of x }
 {
     functions::exp(x)
 }
 
-#[unsafe(no_mangle)]
-pub extern "C" fn savrunte_ln(x: f64) -> f64
+pub fn savrunte_ln(x: f64) -> f64
     ensures { result ≡ ln_of x }
 {
     functions::ln(x)
 }
 
-#[unsafe(no_mangle)]
-pub extern "C" fn savrunte_sin(x: f64) -> SinAnswer
-    ensures { result ≡ sinAnswer (sin_of x) }
+pub fn savrunte_sin(x: f64) -> SinAnswer
+    ensures { result ≡ sin_answer (sin_of x) }
 {
     let s = functions::sin(x);
     match s {
@@ -354,14 +345,13 @@ pub extern "C" fn savrunte_sin(x: f64) -> SinAnswer
     }
 }
 
-#[unsafe(no_mangle)]
-pub extern "C" fn savrunte_convergence(
+pub fn savrunte_convergence(
     x: &[f64],
     y: &[f64],
     nodes: usize,
     options: Options,
 ) -> ConvergenceAnswer
-    ensures { result ≡ convergenceAnswer (convergence_of x.now y.now nodes options) }
+    ensures { result ≡ convergence_answer (convergence_of x.now y.now nodes options) }
 {
     let c = convergence::convergence_check(x, y, nodes, options);
     match c {
@@ -384,39 +374,35 @@ pub extern "C" fn savrunte_convergence(
     }
 }
 
-#[unsafe(no_mangle)]
-pub extern "C" fn savrunte_pattern(points: &[u8], t_delay: f64, repeat: f64, t: f64) -> f64
+pub fn savrunte_pattern(points: &[u8], t_delay: f64, repeat: f64, t: f64) -> f64
     ensures { result ≡ pattern_at (points_from points.now 0 (length points.now / 16)) t_delay repeat t }
 {
     let count = points.len() / 16;
     models::vpwl::evaluate(points, 0, count, t_delay, repeat, t)
 }
 
-#[unsafe(no_mangle)]
-pub extern "C" fn savrunte_pattern_first(points: &[u8], t_delay: f64, repeat: f64, t: f64) -> f64
+pub fn savrunte_pattern_first(points: &[u8], t_delay: f64, repeat: f64, t: f64) -> f64
     ensures { result ≡ pattern_first_at (points_from points.now 0 (length points.now / 16)) t_delay repeat t }
 {
     let count = points.len() / 16;
     models::vpwl::evaluate_first(points, 0, count, t_delay, repeat, t)
 }
 
-#[unsafe(no_mangle)]
-pub extern "C" fn savrunte_capacitor(value: f64, v: f64, step: f64) -> CompanionAnswer
+pub fn savrunte_capacitor(value: f64, v: f64, step: f64) -> CompanionAnswer
     ensures { result ≡ companion (companion_of value v step) }
 {
     let c = models::capacitor::linearize(value, v, step);
     CompanionAnswer { g: c.g, i: c.i }
 }
 
-#[unsafe(no_mangle)]
-pub extern "C" fn savrunte_diode(
+pub fn savrunte_diode(
     i_sat: f64,
     tdegc: f64,
     v: f64,
     memory: f64,
     options: Options,
 ) -> DiodeAnswer
-    ensures { result ≡ diodeAnswer memory (linearized options i_sat tdegc v memory) }
+    ensures { result ≡ diode_answer memory (linearized options i_sat tdegc v memory) }
 {
     let d = models::diode::linearize(options, i_sat, tdegc, v, memory);
     match d {
@@ -435,21 +421,19 @@ pub extern "C" fn savrunte_diode(
     }
 }
 
-#[unsafe(no_mangle)]
-pub extern "C" fn savrunte_solve(matrix: &mut [f64], vector: &mut [f64], rows: usize) -> u64
+pub fn savrunte_solve(matrix: &mut [f64], vector: &mut [f64], rows: usize) -> u64
     ensures { solved_as result matrix.new vector.new ≡ solve_of rows matrix.old vector.old }
 {
     solve::solve(matrix, vector, rows) as u64
 }
 
-#[unsafe(no_mangle)]
-pub extern "C" fn savrunte_judge(
+pub fn savrunte_judge(
     system: &[f64],
     vector: &[f64],
     tolerances: &[f64],
     rows: usize,
 ) -> JudgeAnswer
-    ensures { result ≡ judgeAnswer rows (judge_of rows system.now vector.now tolerances.now) }
+    ensures { result ≡ judge_answer rows (judge_of rows system.now vector.now tolerances.now) }
 {
     let j = judge::judge(system, vector, tolerances, rows);
     match j {
