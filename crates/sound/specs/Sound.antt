@@ -55,7 +55,7 @@ call_of o jobs nodes sources unknown sheets points tolerances x r =
 abbrev pub batch_in : Call → Batch
 batch_in c =
     batch_of c.options c.jobs c.nodes c.sources c.unknown c.sheets c.points c.scratch
-    (spreads.resultsOf c.lent.vectors c.lent.causes c.lent.places c.lent.passes c.lent.counts c.lent.plus c.lent.minus)
+    (spreads.results_of c.lent.vectors c.lent.causes c.lent.places c.lent.passes c.lent.counts c.lent.plus c.lent.minus)
 
 -- its counts and lengths, and the lengths of what is lent besides
 abbrev pub lengths : Call → Lent

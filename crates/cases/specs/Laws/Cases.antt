@@ -80,13 +80,13 @@ abbrev run : Bool → ℕ → ℕ → ℕ → List ℕ → engine.Result
 run transient itl1 nodes srcs s =
     let n = nodes + srcs in
     let m = fives (n * (n + 1)) in
-    let y = fives (length s / bytes.recordBytes) in
+    let y = fives (length s / bytes.record_bytes) in
     let w = fives (4 * (n + 1)) in
     engine.run_of (engine.call_of (bench itl1) transient nodes srcs s [] m (buffers_of m m (fives n) y w))
 
 -- verdict (or refusal), DC verdict, passes and rows
 abbrev pub told : Outcome → List ℕ
-told r = let t = outcome.numbersOf r in outcome.number_of r ∷ t.dc ∷ t.passes ∷ t.rows ∷ []
+told r = let t = outcome.numbers_of r in outcome.number_of r ∷ t.dc ∷ t.passes ∷ t.rows ∷ []
 
 -- a DC run: what is told, and the vector
 abbrev dc : ℕ → ℕ → ℕ → List ℕ → List ℕ
@@ -102,19 +102,19 @@ divider = voltage 1 0 four 0 ++ (resistor 1 2 one ++ resistor 2 0 one)
 -- ---- the parts
 
 abbrev agreed : List Float → List Float → List ℕ
-agreed x y = convergence.number_of (convergence.convergenceOf x y 2 (bench 10)) ∷ []
+agreed x y = convergence.number_of (convergence.convergence_of x y 2 (bench 10)) ∷ []
 
 abbrev point : Float → Float → Point
 point t v = record { time = t; level = v }
 
 abbrev level : Float → Float → List ℕ
-level v t = to_bits binary64 (vpwl.patternAt (point nought v ∷ point one four ∷ []) nought minus_one t) ∷ []
+level v t = to_bits binary64 (vpwl.pattern_at (point nought v ∷ point one four ∷ []) nought minus_one t) ∷ []
 
 abbrev companion : Companion → List ℕ
 companion c = to_bits binary64 c.g ∷ to_bits binary64 c.i ∷ []
 
 abbrev judged : ℕ → List Float → List Float → Float → List ℕ
-judged n m x t = let r = judge.numbersOf n (judge.judgeOf n m x (replicate n t)) in r.refusal ∷ r.row ∷ []
+judged n m x t = let r = judge.numbers_of n (judge.judge_of n m x (replicate n t)) in r.refusal ∷ r.row ∷ []
 
 -- the judge on case b: tolerances 0; the last unknown -1, with 0.5 and with 1
 abbrev on_divider : List ℕ
@@ -168,7 +168,7 @@ cases =
     -- h: NaN
     ∷ case (level three nought) (bits (nan ∷ []))
     -- i: g 2, i 6
-    ∷ case (companion (capacitor.companionOf one three half)) (bits (two ∷ six ∷ []))
+    ∷ case (companion (capacitor.companion_of one three half)) (bits (two ∷ six ∷ []))
     -- j: node 1 is 1, 0.5, 0.75, 0.875 at times 0, 1, 2, 2; eight passes
     ∷ case (transient 10 2 0 (resistor 1 0 one ++ (capacitance 1 0 one ++ current 0 1 one)))
     (0 ∷ 0 ∷ 8 ∷ 4 ∷ bits (nought ∷ nought ∷ one ∷ one ∷ nought ∷ half ∷ two ∷ nought ∷ of_bits binary64 0x3FE8000000000000 ∷ two ∷ nought ∷ of_bits binary64 0x3FEC000000000000 ∷ []))
@@ -180,5 +180,5 @@ cases =
 
 -- every case's answer is the document's
 answers : all cases ≡ true
-unfolding floats.absoluteOf le.le32 le.le64 le.float_at loop.copied loop.row_at checks.bad_order checks.badCounts checks.badRoom checks.sizesRefusal checks.checkedOf sharing.shares sharing.noneShares sheet.checkFrom sheet.badSheet sheet.badPoints range.nodesOf range.sourcesOf range.points_of range.nodesFit range.sourcesFit range.pointsFit range.elementFault bytes.recordAt bytes.elementOf bytes.usesOf bytes.zeros bytes.restZero bytes.decodeOf row.row_of kinds.currentWrites kinds.conductanceWrites kinds.voltageWrites kinds.vcvsWrites kinds.vccsWrites kinds.capacitorWrites kinds.inductorWrites kinds.diodeWrites write.written write.stamped diodes.biased diodes.biasedAt diodes.diodesOf plain.baseWrites plain.dependentWrites plain.basedOn plain.dependentOf storage.capacitorIn storage.inductorIn storage.storageWrites storage.storageOf storage.currentIn storage.withCurrent storage.taken_of records.writes_of sources.driven sources.drivenAt sources.independentOf stamping.base_of stamping.completed stamping.linearOf stamping.stampOf capacitor.companionOf inductor.conductanceOf inductor.currentAfter vpwl.last_of vpwl.between vpwl.or_zero vpwl.levelOn vpwl.levelAt vpwl.patternAt solve.indexOfNextAbs solve.swapped solve.lessScaled solve.reduced solve.cleared solve.column solve.eliminated solve.dot solve.unknown solve.lastUnknown solve.substituted solve.solution convergence.limit convergence.place convergence.checked convergence.convergenceOf control.waited control.dcOver control.dcAfter control.moved control.eased control.shortened control.stepAfter counters.next counters.verdictOf counters.dcVerdictOf machine.compared machine.tried machine.takes machine.took machine.written_by machine.landed machine.dcPass machine.stepPass machine.pass machine.runFor attempt.attemptOf begin.forgotten engine.run_of engine.endingOf engine.refusedOf work.end_of exact.units judge.total judge.residual judge.named judge.judgeRefusal judge.judgeOf Ieee.of_bits Ieee.to_bits Ieee.add Ieee.sub Ieee.mul Ieee.div Ieee.rem Ieee.lt Ieee.le Ieee.eq Ieee.is_nan
+unfolding floats.absolute_of le.le32 le.le64 le.float_at loop.copied loop.row_at checks.bad_order checks.bad_counts checks.bad_room checks.sizes_refusal checks.checked_of sharing.shares sharing.none_shares sheet.check_from sheet.bad_sheet sheet.bad_points range.nodes_of range.sources_of range.points_of range.nodes_fit range.sources_fit range.points_fit range.element_fault bytes.record_at bytes.element_of bytes.uses_of bytes.zeros bytes.rest_zero bytes.decode_of row.row_of kinds.current_writes kinds.conductance_writes kinds.voltage_writes kinds.vcvs_writes kinds.vccs_writes kinds.capacitor_writes kinds.inductor_writes kinds.diode_writes write.written write.stamped diodes.biased diodes.biased_at diodes.diodes_of plain.base_writes plain.dependent_writes plain.based_on plain.dependent_of storage.capacitor_in storage.inductor_in storage.storage_writes storage.storage_of storage.current_in storage.with_current storage.taken_of records.writes_of sources.driven sources.driven_at sources.independent_of stamping.base_of stamping.completed stamping.linear_of stamping.stamp_of capacitor.companion_of inductor.conductance_of inductor.current_after vpwl.last_of vpwl.between vpwl.or_zero vpwl.level_on vpwl.level_at vpwl.pattern_at solve.index_of_next_abs solve.swapped solve.less_scaled solve.reduced solve.cleared solve.column solve.eliminated solve.dot solve.unknown solve.last_unknown solve.substituted solve.solution convergence.limit convergence.place convergence.checked convergence.convergence_of control.waited control.dc_over control.dc_after control.moved control.eased control.shortened control.step_after counters.next counters.verdict_of counters.dc_verdict_of machine.compared machine.tried machine.takes machine.took machine.written_by machine.landed machine.dc_pass machine.step_pass machine.pass machine.run_for attempt.attempt_of begin.forgotten engine.run_of engine.ending_of engine.refused_of work.end_of exact.units judge.total judge.residual judge.named judge.judge_refusal judge.judge_of Ieee.of_bits Ieee.to_bits Ieee.add Ieee.sub Ieee.mul Ieee.div Ieee.rem Ieee.lt Ieee.le Ieee.eq Ieee.is_nan
 answers = refl

@@ -72,7 +72,7 @@ abbrev run : Options → Bool → ℕ → ℕ → List ℕ → List ℕ → List
 run o transient nodes srcs s points =
     let n = nodes + srcs in
     let m = fives (n * (n + 1)) in
-    let r = engine.run_of (engine.call_of o transient nodes srcs s points m (buffers_of m m (fives n) (fives (length s / bytes.recordBytes)) (fives (4 * (n + 1))))) in
+    let r = engine.run_of (engine.call_of o transient nodes srcs s points m (buffers_of m m (fives n) (fives (length s / bytes.record_bytes)) (fives (4 * (n + 1))))) in
     told r.outcome ++ (bits r.buffers.vector ++ (bits r.buffers.memory ++ bits r.buffers.rows))
 
 -- a level that rises to 8 V, half an ohm, and an inductor to ground; the source has the last number, so that the rule of the last unknown cannot hide the inductor

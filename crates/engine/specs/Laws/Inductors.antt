@@ -76,11 +76,11 @@ module _ (k : Circuit) (s : State) where
 
     -- a step that is not accepted, whether it goes on, is cut or ends the run, moves nothing
     pub rejected_keeps : s.counters.phase ≡ transient_phase → accepts (tried_by (attempt_of k) k.job s).report ≡ false → get_or passed.buffers.memory i nan ≡ before
-    rejected_keeps h r = ap (λ (y : List Float). get_or y i nan) (machine.rejected-stays (attempt_of k) k.job s h r) ∙ attempt_leaves
+    rejected_keeps h r = ap (λ (y : List Float). get_or y i nan) (machine.rejected_stays (attempt_of k) k.job s h r) ∙ attempt_leaves
 
     -- nor does a pass of DC after which DC goes on or has failed (22, 26)
     pub dc_keeps : s.counters.phase ≡ dc_phase → (DcEnds passed.counters → ⊥) → get_or passed.buffers.memory i nan ≡ before
-    dc_keeps h r = ap (λ (y : List Float). get_or y i nan) (machine.dc-stays (attempt_of k) k.job s h r) ∙ attempt_leaves
+    dc_keeps h r = ap (λ (y : List Float). get_or y i nan) (machine.dc_stays (attempt_of k) k.job s h r) ∙ attempt_leaves
 
     module _ (room : i < records_of k.sheet) (lent : i < length s.buffers.memory) where
       long : length solved.memory ≡ length s.buffers.memory
@@ -104,7 +104,7 @@ module _ (k : Circuit) (s : State) where
       accepted_current h r =
           let t : s.counters.phase ≡ dc_phase → ⊥ = λ q. omega (arith, h, q) in
           let v : passed.buffers.vector ≡ solved.vector = ap (λ (x : State). x.buffers.vector) (pass_step (attempt_of k) k.job s t h) ∙ step_vector in
-          ap (λ (y : List Float). get_or y i nan) (machine.accepted-takes (attempt_of k) k.job s h r)
+          ap (λ (y : List Float). get_or y i nan) (machine.accepted_takes (attempt_of k) k.job s h r)
           ∙ rw v (rw (ne_eqb _ _ t) at takes_its)
 
       -- DC that has ended with 0, 20 or 21: the unknown of its row, whatever number that is
@@ -112,7 +112,7 @@ module _ (k : Circuit) (s : State) where
       unfolding current_in
       dc_current h r =
           let v : passed.buffers.vector ≡ solved.vector = ap (λ (x : State). x.buffers.vector) (pass_dc (attempt_of k) k.job s h) ∙ dc_vector in
-          ap (λ (y : List Float). get_or y i nan) (machine.dc-takes (attempt_of k) k.job s h r)
+          ap (λ (y : List Float). get_or y i nan) (machine.dc_takes (attempt_of k) k.job s h r)
           ∙ rw v (rw (eq-eqb _ _ h) at takes_its)
 
   -- ---- a circuit without inductors
@@ -123,7 +123,7 @@ module _ (k : Circuit) (s : State) where
 
   -- a pass takes nothing: it is the attempt with its report, as before there were inductors
   pub plain_pass : inductor_among k.sheet (records_of k.sheet) ≡ false → tried_by (attempt_of k) k.job s ≡ tried (attempt_of k) k.job s.counters s.accepted s.buffers
-  plain_pass h = machine.nothing-taken (attempt_of k) k.job s (none_taken h)
+  plain_pass h = machine.nothing_taken (attempt_of k) k.job s (none_taken h)
 
 -- ---- as a run begins
 

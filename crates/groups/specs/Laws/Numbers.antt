@@ -10,10 +10,10 @@ use Rattle.models.specs.Sine as sine
 use Rattle.groups.specs.Diodes.{companion}
 use Rattle.groups.specs.Sources.{levelled}
 
-pub companion_number : (n i a b : ℕ) (l : Linear) (m y : List Float) (last : Float) → (companion n i a b l m y).code ≡ (diode.numbersOf last l).verdict
+pub companion_number : (n i a b : ℕ) (l : Linear) (m y : List Float) (last : Float) → (companion n i a b l m y).code ≡ (diode.numbers_of last l).verdict
 companion_number n i a b (Model g c v) m y last = refl
 companion_number n i a b NotFinite m y last = refl
 
-pub level_number : (n : ℕ) (f : Float → List Write) (l : Level) (m : List Float) → (levelled n f l m).code ≡ (sine.numbersOf l).verdict
+pub level_number : (n : ℕ) (f : Float → List Write) (l : Level) (m : List Float) → (levelled n f l m).code ≡ (sine.numbers_of l).verdict
 level_number n f (Value x) m = refl
 level_number n f Refused m = refl

@@ -15,21 +15,21 @@ use Rattle.models.specs.declared.diode.Linear.{Linear}
 use Rattle.models.specs.declared.diode.Linear.TheVariants.{Model, NotFinite}
 
 -- "26 sine refused by 12": so exactly where the sine is refused
-pub level_numbers : (vo va : Float) (s : Sine) → (sine.numbersOf (sine.levelOf vo va s)).verdict ≡ cond (eqb (sin.numbersOf s).refusal 0) settled sine_refused
-unfolding sine.levelOf
+pub level_numbers : (vo va : Float) (s : Sine) → (sine.numbers_of (sine.level_of vo va s)).verdict ≡ cond (eqb (sin.numbers_of s).refusal 0) settled sine_refused
+unfolding sine.level_of
 level_numbers vo va (Value y) = refl
 level_numbers vo va Refused = refl
 
 -- with 22 a diode keeps the voltage handed in
-pub diode_kept : (last : Float) (l : Linear) → (diode.numbersOf last l).verdict ≡ diode_current → (diode.numbersOf last l).memory ≡ last
+pub diode_kept : (last : Float) (l : Linear) → (diode.numbers_of last l).verdict ≡ diode_current → (diode.numbers_of last l).memory ≡ last
 diode_kept last (Model g i v) e = absurd (omega arith)
 diode_kept last NotFinite e = refl
 
 -- and settled it keeps the limited one
-pub diode_limited : (gmin isat vt v last : Float) → (diode.numbersOf last (diode.model_at gmin isat vt v)).verdict ≡ settled → (diode.numbersOf last (diode.model_at gmin isat vt v)).memory ≡ v
+pub diode_limited : (gmin isat vt v last : Float) → (diode.numbers_of last (diode.model_at gmin isat vt v)).verdict ≡ settled → (diode.numbers_of last (diode.model_at gmin isat vt v)).memory ≡ v
 unfolding diode.model_at
 diode_limited gmin isat vt v last = go (finite (isat ⊗ (exp_of (v ⊘ vt) ⊖ one))) _ _
   where
-    go : (b : Bool) (g i : Float) → (diode.numbersOf last (cond b (Model g i v) NotFinite)).verdict ≡ settled → (diode.numbersOf last (cond b (Model g i v) NotFinite)).memory ≡ v
+    go : (b : Bool) (g i : Float) → (diode.numbers_of last (cond b (Model g i v) NotFinite)).verdict ≡ settled → (diode.numbers_of last (cond b (Model g i v) NotFinite)).memory ≡ v
     go true g i e = refl
     go false g i e = absurd (omega arith)

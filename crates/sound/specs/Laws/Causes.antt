@@ -40,7 +40,7 @@ no_refusal p (suc k) i r e = go (p i) (no_refusal p k (i + 1) r) e
 module _ (n : ℕ) (m x t : List Float) (k : ℕ) (e : judge_of n m x t ≡ judge.Refused k) where
   -- it is the first that the judge's own checks meet, and not 0
   refusal_told : k ≡ judge_refusal n m x t
-  refusal_told = sym (ap (λ (w : Judged). (the-judge.numbersOf n w).refusal) e) ∙ refusal_is n m x t
+  refusal_told = sym (ap (λ (w : Judged). (the-judge.numbers_of n w).refusal) e) ∙ refusal_is n m x t
 
   refusal_some : k ≡ 0 → ⊥
   unfolding judge_of

@@ -217,7 +217,7 @@ module _ (c : Call) where
 
     as_spreads : AsSpreads c (reports_of all.report sound.report) left
     as_spreads =
-        let d = spreads-call.call-done (batch_in c) (spreads.fine-none c.options (lengths c) ok.call) in
+        let d = spreads-call.call_done (batch_in c) (spreads.fine_none c.options (lengths c) ok.call) in
         record {
           answer = ap (λ (x : BatchResult). x.answer) d;
           vectors = ap (λ (x : BatchResult). x.results.vectors) d;

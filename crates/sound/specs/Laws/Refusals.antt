@@ -77,7 +77,7 @@ module _ (o : Options) (z : Lent) (y : More) where
   unfolding sound_refusal short_more
   fine_none f =
       rw (
-        spreads.fine-none o z f.call,
+        spreads.fine_none o z f.call,
         le-ltb z.counts 29 f.count_room,
         enough_tolerances y.tolerances (order z) f.tolerances,
         le-ltb y.plus 66 f.plus-room,
@@ -101,4 +101,4 @@ module _ (o : Options) (z : Lent) (y : More) where
       go : (a b : Bool) → eqb (call_refusal o z) 0 ≡ a → (cond a (cond b 5 0) (call_refusal o z) ≡ 0 → ⊥) → RefusedBy (cond a (cond b 5 0) (call_refusal o z))
       go true true e n = inr (omega arith, omega arith)
       go true false e n = absurd (n refl)
-      go false b e n = spreads.refused-by o z n
+      go false b e n = spreads.refused_by o z n
