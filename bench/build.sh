@@ -1,10 +1,10 @@
 # Builds the bench program; read in by the scripts beside it. Leaves its command line in $bench.
 #
 # options: --rust PATH      the published Rust (a folder with lib.rs); ../shared/docs/src/src by default
-#          --archive PATH   the archive to link; target/staticlib/libsavrunte.a by default, made by rt if need be
+#          --archive PATH   the archive to link; target/staticlib/libsavrunte.a by default, made by tools/make_archive if need be
 #          --no-archive     without one: the model and a second writing of exp, ln and sin stand in
 #          --emulate        build for x86-64 and run under qemu, as on any machine that is not x86-64
-#          --native         on aarch64: build for this machine, with the archive that bench/native makes by default
+#          --native         on aarch64: build for this machine, by default with target/native/libsavrunte.a, which bench/native makes on x86-64
 #
 # A script may set $folder first: the program is built in that folder of target/, bench by default.
 set -eu
@@ -73,18 +73,11 @@ need cc gcc libc6-dev
 [ -f "$rust/lib.rs" ] || { echo "no published Rust at $rust (give its folder with --rust)" >&2; exit 2; }
 link=
 if [ $with_archive = yes ]; then
-    # an archive that was not named is made anew when a source is newer
+    # an archive that was not named is made anew when a source is newer; the kit makes archives on x86-64 alone
     if [ -z "$archive" ]; then
         archive=$shipped
         [ $native = no ] || archive=$own
-        if [ ! -f "$archive" ] || [ -n "$(find "$top/crates" -name '*.rt' -newer "$archive" | head -1)" ]; then
-            echo "making the archive" >&2
-            mkdir -p "$top/target"
-            if [ $native = yes ]; then set -- "$top/bench/native" "$top"; else set -- rt staticlib savrunte; fi
-            (cd "$top" && "$@" >"$top/target/staticlib.log" 2>&1) || { tail -5 "$top/target/staticlib.log" >&2; exit 2; }
-            # shellcheck disable=SC2086
-            set -- $words
-        fi
+        [ "$(uname -m)" != x86_64 ] || "$top/tools/make_archive" >/dev/null || exit 2
     fi
     [ -f "$archive" ] || { echo "no archive at $archive" >&2; exit 2; }
     mkdir -p "$out"

@@ -20,7 +20,7 @@ scratch() { # TOP WORK CRATE..
             } while (more)
             for (i = 1; i <= n; i++) if (order[i] in need) print line[order[i]]
         }' "$from/crates.txt" >"$to/crates.txt"
-    sed 's/:.*//' "$to/crates.txt" | while read -r crate; do
+    sed 's/[: ].*//' "$to/crates.txt" | while read -r crate; do
         rm -rf "$to/crates/$crate"
         cp -r "$from/crates/$crate" "$to/crates/$crate"
         rm -rf "$to/crates/$crate/must-fail"

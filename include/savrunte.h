@@ -1,4 +1,4 @@
-/* Savrunte: a proved circuit engine. Link with libsavrunte.a (made by `rt staticlib savrunte`) and -lm (for fmod).
+/* Savrunte: a proved circuit engine. Link with libsavrunte.a (made by tools/make_archive) and -lm (for fmod).
  *
  * Every function is total: it refuses by a number and changes nothing that was lent to it, or it runs and says how it ended.
  * Numbers are listed in docs/NUMBERS.md. A slice is a pointer and then its length in elements; a length of 0 wants a pointer

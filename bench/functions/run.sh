@@ -11,19 +11,21 @@ scratch "$top" "$work" functions
 mkdir -p "$work/crates/door/src"
 cat > "$work/crates/door/src/lib.rt" <<'END'
 // The three functions for C, for timing alone.
+#![tactic(auto)]
+
 use functions::Sine;
 
-#[no_mangle]
+#[unsafe(no_mangle)]
 pub extern "C" fn own_exp(x: f64) -> f64 {
     functions::exp(x)
 }
 
-#[no_mangle]
+#[unsafe(no_mangle)]
 pub extern "C" fn own_ln(x: f64) -> f64 {
     functions::ln(x)
 }
 
-#[no_mangle]
+#[unsafe(no_mangle)]
 pub extern "C" fn own_sin(x: f64) -> f64 {
     match functions::sin(x) {
         Sine::Value(r) => r,
@@ -31,8 +33,8 @@ pub extern "C" fn own_sin(x: f64) -> f64 {
     }
 }
 END
-echo 'door: functions' >>"$work/crates.txt"
+echo 'door staticlib: functions' >>"$work/crates.txt"
 cd "$work"
-rt staticlib door > build.log 2>&1 || { tail -20 build.log; exit 1; }
-${CC:-cc} -O2 -fno-builtin -o times "$here/times.c" target/staticlib/libdoor.a -lm
+(cd crates/door && rt lib) > build.log 2>&1 || { tail -20 build.log; exit 1; }
+${CC:-cc} -O2 -fno-builtin -o times "$here/times.c" crates/door/out/libdoor.a -lm
 ./times

@@ -10,12 +10,14 @@ trap 'rm -rf "$work"' EXIT
 . "$here/../scratch.sh"
 scratch "$top" "$work/repo" judge
 mkdir -p "$work/repo/crates/judge_row/src"
-echo 'judge_row: judge' >>"$work/repo/crates.txt"
+echo 'judge_row staticlib: judge' >>"$work/repo/crates.txt"
 cat >"$work/repo/crates/judge_row/src/lib.rt" <<'R'
 // The judge for C, as one number.
+#![tactic(auto)]
+
 use judge::Judged;
 
-#[no_mangle]
+#[unsafe(no_mangle)]
 pub extern "C" fn judge_row(system: &[f64], vector: &[f64], tolerances: &[f64], rows: usize) -> usize {
     match judge::judge(system, vector, tolerances, rows) {
         Judged::Accepted => rows,
@@ -24,6 +26,6 @@ pub extern "C" fn judge_row(system: &[f64], vector: &[f64], tolerances: &[f64], 
     }
 }
 R
-(cd "$work/repo" && rt staticlib judge_row >"$work/log" 2>&1) || { tail -20 "$work/log"; exit 1; }
-cc -O3 -o "$work/judge" "$here/judge.c" "$work/repo/target/staticlib/libjudge_row.a" -lgmp
+(cd "$work/repo/crates/judge_row" && rt lib >"$work/log" 2>&1) || { tail -20 "$work/log"; exit 1; }
+cc -O3 -o "$work/judge" "$here/judge.c" "$work/repo/crates/judge_row/out/libjudge_row.a" -lgmp
 python3 "$here/run.py" "$work/judge" "$work"

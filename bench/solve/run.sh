@@ -9,14 +9,17 @@ work=${2:-$(mktemp -d)}
 . "$here/../scratch.sh"
 scratch "$top" "$work" solve
 mkdir -p "$work/crates/door/src"
-echo 'door: solve' >>"$work/crates.txt"
+echo 'door staticlib: solve' >>"$work/crates.txt"
 cat >"$work/crates/door/src/lib.rt" <<'D'
-#[no_mangle]
+// The solver for C, for timing alone.
+#![tactic(auto)]
+
+#[unsafe(no_mangle)]
 pub extern "C" fn door_solve(matrix: &mut [f64], vector: &mut [f64], n: usize) -> u8 {
     solve::solve(matrix, vector, n)
 }
 D
-(cd "$work" && rt staticlib door) | tail -1
+(cd "$work/crates/door" && rt lib) | tail -1
 # the two functions, from one comment line of the published text to another
 {
     echo 'struct Engine { c_nodes: usize, c_vsrcs: usize }'
@@ -25,5 +28,5 @@ D
     echo '}'
 } >"$work/published.rs"
 PUBLISHED="$work/published.rs" rustc --edition 2015 -O "$here/main.rs" -o "$work/times" \
-    -C link-arg="$work/target/staticlib/libdoor.a" 2>"$work/rustc.log" || { cat "$work/rustc.log"; exit 1; }
+    -C link-arg="$work/crates/door/out/libdoor.a" 2>"$work/rustc.log" || { cat "$work/rustc.log"; exit 1; }
 "$work/times"

@@ -1,4 +1,4 @@
-//! Finds the archive that `rt staticlib savrunte` writes and links it.
+//! Finds the archive that tools/make_archive makes and links it.
 use std::env;
 use std::path::PathBuf;
 
@@ -11,7 +11,7 @@ fn main() {
     let archive = dir.join("libsavrunte.a");
     println!("cargo:rerun-if-changed={}", archive.display());
     if !archive.exists() {
-        panic!("{} is missing: run `rt staticlib savrunte` at the repository's top first", archive.display());
+        panic!("{} is missing: run tools/make_archive at the repository's top first", archive.display());
     }
     println!("cargo:rustc-link-search=native={}", dir.display());
     println!("cargo:rustc-link-lib=static=savrunte");

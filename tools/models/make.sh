@@ -3,7 +3,7 @@
 # edits below there, builds them with answers.rs and lets them answer. The seed is fixed, so the same files come out each time.
 # usage, at the repository's top: tools/models/make.sh SOURCE [FUNCTIONS]
 #   SOURCE     the published Rust's folder src
-#   FUNCTIONS  exp, ln and sin: the archive that `rt staticlib savrunte` makes (the default), or a Rust file that has them
+#   FUNCTIONS  exp, ln and sin: the archive that tools/make_archive makes (the default), or a Rust file that has them
 set -eu
 source=$1
 functions=${2:-target/staticlib/libsavrunte.a}
