@@ -113,3 +113,12 @@ if [ "$(cat "$out/stamp" 2>/dev/null || true)" != "$stamp" ]; then
     echo "$stamp" >"$out/stamp"
 fi
 bench="$runner $out/bench"
+
+# Runs the bench where it writes a stored list, and puts what it wrote beside the crate that replays it too.
+listed() {
+    status=0
+    # shellcheck disable=SC2086
+    $bench "$@" || status=$?
+    "$top/tools/twice" --write
+    exit $status
+}

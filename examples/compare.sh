@@ -5,6 +5,7 @@ set -eu
 name=$1
 file=$(realpath "$2")
 cd "$(dirname "$0")/.."
+tools/twice || exit 2
 mkdir -p target/examples
 to=target/examples/$name
 examples/run.sh "$name" "$file" >"$to.c.tsv"

@@ -18,7 +18,9 @@ up through the choke before the first row after 0 is written; source 4 is 0 in t
 """
 import os
 import struct
+import subprocess
 
+HERE = os.path.dirname(os.path.abspath(__file__))
 NODES, SOURCES, OUTPUT = 12, 4, 11
 
 
@@ -129,7 +131,7 @@ def job(sheet, transient=0, rows=0, itl1=50, itl3=8, tolerances=(), options=OPTI
 
 def write(name, jobs):
     """A file of jobs beside this script."""
-    path = os.path.join(os.path.dirname(os.path.abspath(__file__)), name)
+    path = os.path.join(HERE, name)
     with open(path, 'wb') as f:
         f.write(b'SAVJOBS2' + struct.pack('<3Q', len(jobs), max(map(len, jobs)), 0) + b''.join(jobs))
 
@@ -144,6 +146,7 @@ def main():
     choke = b''.join(choked(nominal))
     jobs += [job(choke, **CHOKED), job(choke, transient=1, rows=400, **CHOKED)]
     write('front_end.jobs', jobs)
+    subprocess.run([os.path.join(os.path.dirname(HERE), 'tools', 'twice'), '--write'], check=True)
 
 
 if __name__ == '__main__':

@@ -7,6 +7,7 @@ more passes than are given, an infinite saturation current, a resistor of no ohm
 import os
 import random
 import struct
+import subprocess
 
 import front_end
 
@@ -38,9 +39,10 @@ def main():
     points = front_end.POINT_BYTES
     head = b'SAVSPRD1' + struct.pack('<3Q', JOBS, front_end.NODES, front_end.SOURCES) + front_end.OPTIONS
     head += struct.pack('<4Q', PASSES - 1, 8, 20, 10000) + struct.pack('<3Q', len(all_sheets), len(points), front_end.OUTPUT)
-    path = os.path.join(os.path.dirname(os.path.abspath(__file__)), 'spreads.jobs')
+    path = os.path.join(front_end.HERE, 'spreads.jobs')
     with open(path, 'wb') as f:
         f.write(head + all_sheets + points)
+    subprocess.run([os.path.join(os.path.dirname(front_end.HERE), 'tools', 'twice'), '--write'], check=True)
 
 
 if __name__ == '__main__':

@@ -1,7 +1,7 @@
 #!/usr/bin/env python3
 """Stored files in form 2 (docs/FORMATS.md), from those in form 1: the same jobs, with heads that say how many words they have.
 
-    form2.py            writes crates/engine_replay/data/answers2.bin and, in crates/savrunte_tool/data, front_end1.jobs (which is of form 1), front_end2.jobs, spreads2.jobs, waiting2.jobs, judged2.jobs,
+    form2.py            writes crates/engine_replay/data/answers2.bin, the same in bench, and, in crates/savrunte_tool/data, front_end1.jobs (which is of form 1), front_end2.jobs, spreads2.jobs, waiting2.jobs, judged2.jobs,
                         caught_up2.jobs, ramps2.jobs, ramp_spreads2.jobs, inductors2.jobs and inductor_spreads2.jobs
     form2.py --check    says whether they are what it would write
 
@@ -182,8 +182,10 @@ def inductor_spreads():
 def main():
     tool = DATA / "savrunte_tool" / "data"
     plain = front_end((tool / "front_end.jobs").read_bytes())
+    directed = answers((TOP / "bench" / "answers.bin").read_bytes())
     files = {
-        DATA / "engine_replay" / "data" / "answers2.bin": answers((TOP / "bench" / "answers.bin").read_bytes()),
+        DATA / "engine_replay" / "data" / "answers2.bin": directed,
+        TOP / "bench" / "answers2.bin": directed,
         tool / "front_end1.jobs": plain,
         tool / "front_end2.jobs": jobs(plain),
         tool / "spreads2.jobs": spreads((tool / "spreads.jobs").read_bytes()),
