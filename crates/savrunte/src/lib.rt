@@ -1,5 +1,7 @@
 // The door: each function is thin over a proved one, and its answer is that one's as numbers. The crate savrunte_c exports them to C under the same names; the header is include/savrunte.h.
 // Every function is total. On a refusal every other field of the answer is 0, but for the place. The numbers of each answer stand beside its enum, as `told`.
+#![tactic(auto)]
+
 ghost use Rattle.std.specs.Prelude.{◌≡◌, true, false, [], ◌/◌, length};
 ghost use Rattle.behind.specs.Behind.{behind_number};
 ghost use Rattle.convergence.specs.Convergence.{convergence_of};
@@ -188,12 +190,7 @@ pub fn savrunte_transient(
 }
 
 // The first record whose diode is behind at this vector, with this memory: 0 for none, else 1 and its place.
-pub fn savrunte_behind(
-    sheet: &[u8],
-    vector: &[f64],
-    memory: &[f64],
-    options: Options,
-) -> u64
+pub fn savrunte_behind(sheet: &[u8], vector: &[f64], memory: &[f64], options: Options) -> u64
     ensures { result ≡ behind_number options sheet.now vector.now memory.now }
 {
     behind::behind_number(options, sheet, vector, memory)
@@ -395,13 +392,7 @@ pub fn savrunte_capacitor(value: f64, v: f64, step: f64) -> CompanionAnswer
     CompanionAnswer { g: c.g, i: c.i }
 }
 
-pub fn savrunte_diode(
-    i_sat: f64,
-    tdegc: f64,
-    v: f64,
-    memory: f64,
-    options: Options,
-) -> DiodeAnswer
+pub fn savrunte_diode(i_sat: f64, tdegc: f64, v: f64, memory: f64, options: Options) -> DiodeAnswer
     ensures { result ≡ diode_answer memory (linearized options i_sat tdegc v memory) }
 {
     let d = models::diode::linearize(options, i_sat, tdegc, v, memory);
