@@ -1,6 +1,6 @@
 #!/usr/bin/env python3
-# Writes crates/solve_cases/specs/laws/Cases.antt: systems of 1 to 8 rows with the bits that Python's doubles give for them, worked on lists of rows as document 01 says it.
-# usage: tools/solve/cases.py > crates/solve_cases/specs/laws/Cases.antt; rt fmt
+# Writes crates/solve_cases/specs/Laws/Cases.antt: systems of 1 to 8 rows with the bits that Python's doubles give for them, worked on lists of rows as document 01 says it.
+# usage: tools/solve/cases.py > crates/solve_cases/specs/Laws/Cases.antt; then `rt fmt` in that crate
 import math
 import random
 import struct
@@ -106,14 +106,12 @@ def words(xs):
 
 
 print('''-- Systems of 1 to 8 rows with the matrix and the vector that solving leaves, as bits, from an outside computation: one computed statement. tools/solve/cases.py writes this file.
-use Prim.Native.Nat.{ℕ, _+_, _*_}
-use mathlib.Core.Path.{_≡_, refl}
-use mathlib.Core.List.{List, [], _∷_, map}
-use lib.ListN.{replicate}
-use lib.Ieee.{Float, binary64, ofBits, toBits, add, sub, mul, div, lt, eq}
-use Rattle·num.specs.Floats.{nought, absoluteOf}
-use Rattle·num.specs.Literals.{one}
-use Rattle·solve.specs.Solve.{Solved, solveOf, indexOfNextAbs, swapped, lessScaled, reduced, cleared, column, eliminated, dot, unknown, lastUnknown, substituted, solution}
+use Rattle.std.specs.Prelude.{ℕ, ◌+◌, ◌*◌, ◌≡◌, refl, List, [], ◌∷◌, map, replicate, Float}
+use Rattle.std.specs.Float.{binary64}
+use Rattle.std.specs.Float.Ieee.{of_bits, to_bits, add, sub, mul, div, lt, eq}
+use Rattle.num.specs.Floats.{nought, absolute_of}
+use Rattle.num.specs.Literals.{one}
+use Rattle.solve.specs.Solve.{Solved, solve_of, index_of_next_abs, swapped, less_scaled, reduced, cleared, column, eliminated, dot, unknown, last_unknown, substituted, solution}
 
 pub record Case : Type 0 where
   pub rows : ℕ
@@ -124,11 +122,11 @@ pub record Case : Type 0 where
 -- the system's bits in, both buffers' bits out, the vector being full of ones before
 answer : Case → ℕ × List ℕ × List ℕ
 answer c =
-    let s = solveOf (c .rows) (map (ofBits binary64) (c .given)) (replicate (c .rows) one) in
-    (s .refusal, map (toBits binary64) (s .matrix), map (toBits binary64) (s .vector))
+    let s = solve_of c.rows (map (of_bits binary64) c.given) (replicate c.rows one) in
+    (s.refusal, map (to_bits binary64) s.matrix, map (to_bits binary64) s.vector)
 
 expected : Case → ℕ × List ℕ × List ℕ
-expected c = (0, c .matrix, c .vector)
+expected c = (0, c.matrix, c.vector)
 ''')
 names = []
 for i, (what, m) in enumerate(SYSTEMS):
@@ -142,6 +140,6 @@ for i, (what, m) in enumerate(SYSTEMS):
 print(f'''cases : List Case
 cases = {' ∷ '.join(names)} ∷ []
 
-all-right : map answer cases ≡ map expected cases
-unfolding cases {' '.join(names)} answer expected solveOf indexOfNextAbs swapped lessScaled reduced cleared column eliminated dot unknown lastUnknown substituted solution absoluteOf ofBits toBits add sub mul div lt eq
-all-right = refl''')
+all_right : map answer cases ≡ map expected cases
+unfolding cases {' '.join(names)} answer expected solve_of index_of_next_abs swapped less_scaled reduced cleared column eliminated dot unknown last_unknown substituted solution absolute_of of_bits to_bits add sub mul div lt eq
+all_right = refl''')

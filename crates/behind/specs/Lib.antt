@@ -1,3 +1,3 @@
--- Whether the diodes of a sheet have caught up. Read Behind; `laws` holds what is proved of it.
+-- Whether the diodes of a sheet have caught up. Read Behind; `Laws` holds what is proved of it.
 pub mod Behind
 pub mod Laws

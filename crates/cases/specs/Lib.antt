@@ -1,2 +1,2 @@
--- No definitions: `laws` has the bench's cases, computed.
+-- No definitions: `Laws` has the bench's cases, computed.
 pub mod Laws

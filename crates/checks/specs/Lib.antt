@@ -1,3 +1,3 @@
--- What a run refuses before it starts. Read Checks; `laws` holds what a caller may build on where nothing is refused.
+-- What a run refuses before it starts. Read Checks; `Laws` holds what a caller may build on where nothing is refused.
 pub mod Checks
 pub mod Laws

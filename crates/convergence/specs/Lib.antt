@@ -1,3 +1,3 @@
--- What the convergence check answers. Definitions, and `laws` with computed cases.
+-- What the convergence check answers. Definitions, and `Laws` with computed cases.
 pub mod Convergence
 pub mod Laws

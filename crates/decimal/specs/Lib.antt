@@ -1,4 +1,4 @@
--- A float as decimal digits: what is written for it, the units and limbs on the way, and `laws` with what holds of them.
+-- A float as decimal digits: what is written for it, the units and limbs on the way, and `Laws` with what holds of them.
 pub mod Limbs
 pub mod Scale
 pub mod Shortest

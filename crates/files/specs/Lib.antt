@@ -1,3 +1,3 @@
--- What is told of a diode that is behind. Definitions, and `laws` with what holds of them.
+-- What is told of a diode that is behind. Definitions, and `Laws` with what holds of them.
 pub mod Volts
 pub mod Laws

@@ -1,4 +1,4 @@
--- What exp, ln and sin answer. Read Exp, Ln and Sin; then, in `laws`, Values and Bounds.
+-- What exp, ln and sin answer. Read Exp, Ln and Sin; then, in `Laws`, Values and Bounds.
 pub mod Fraction
 pub mod Reduction
 pub mod Words

@@ -1,3 +1,3 @@
--- The judge: what it answers, and `laws` that say exactly when.
+-- The judge: what it answers, and `Laws` that say exactly when.
 pub mod Judge
 pub mod Laws

@@ -1,4 +1,4 @@
--- What each model answers. Signs has the operators; then one file a model. `laws` holds cases worked out.
+-- What each model answers. Signs has the operators; then one file a model. `Laws` holds cases worked out.
 pub mod Signs
 pub mod Capacitor
 pub mod Inductor

@@ -1,4 +1,4 @@
--- What the small functions on numbers mean. Definitions, and `laws` with what holds of them.
+-- What the small functions on numbers mean. Definitions, and `Laws` with what holds of them.
 pub mod Le
 pub mod Floats
 pub mod Lists

@@ -1,2 +1,2 @@
--- No definitions: `laws` has systems whose bits come from outside, computed.
+-- No definitions: `Laws` has systems whose bits come from outside, computed.
 pub mod Laws

@@ -1,4 +1,4 @@
--- What a call of sound spreads answers and leaves. Read Causes, then Sound, Refusals and Reports; Runs has what the work leaves on its way; `laws` holds what follows from them.
+-- What a call of sound spreads answers and leaves. Read Causes, then Sound, Refusals and Reports; Runs has what the work leaves on its way; `Laws` holds what follows from them.
 pub mod Causes
 pub mod Runs
 pub mod Refusals

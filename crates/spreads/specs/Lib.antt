@@ -1,4 +1,4 @@
--- What a call of spreads answers and leaves. Read Spreads, then Numbers, Refusals and Runs, and tally's definitions for the report; `laws` holds what follows from them.
+-- What a call of spreads answers and leaves. Read Spreads, then Numbers, Refusals and Runs, and tally's definitions for the report; `Laws` holds what follows from them.
 pub mod Runs
 pub mod Refusals
 pub mod Spreads
