@@ -9,7 +9,7 @@
  *   that the call reads; what is only read may overlap. Each pointer is aligned for its type and has as many elements as its length says.
  * - The default floating-point environment, as a program starts: round to nearest, no exception traps, subnormal numbers kept
  *   (neither flush-to-zero nor denormals-are-zero, which code linked with -ffast-math can set for the whole process). The archive is
- *   x86-64 code with SSE2 doubles: no x87, so no excess precision, and no fused multiply-add.
+ *   x86-64 code, for a processor of level x86-64-v2 or above, with SSE2 doubles: no x87, so no excess precision, and no fused multiply-add.
  * - Stack. A run (DC, transient, spreads) takes up to 26 KiB, every other call less than 2 KiB. Where the dynamic linker binds fmod,
  *   memcpy and memset at their first call, that call takes a few KiB more. Leave 32 KiB.
  * Calls from several threads are safe as long as they share no lent buffer; what is only read may be shared. There is no global
