@@ -184,7 +184,7 @@ returns c =
           system = drop_at x.last.1.1.1.1.1.1.1.1.1.0 (drop n a.system.now) n (x.kept.1.1.1.1.1.1.1.1.1.0 ∙ length-take-le _ _ k.call.one.system-room);
           elimination = drop_at x.last.1.1.1.1.1.1.1.1.1.1.0 (drop n a.elimination.now) n (x.kept.1.1.1.1.1.1.1.1.1.1.0 ∙ length-take-le _ _ k.call.one.elimination-room);
           memory = drop_at x.last.1.1.1.1.1.1.1.1.1.1.1.0 (drop r a.memory.now) r (x.kept.1.1.1.1.1.1.1.1.1.1.1.0 ∙ length-take-le _ _ k.call.one.memory-room);
-          kept = λ h. absurd (h (spreads.fine-none _ _ k.call));
+          kept = λ h. absurd (h (spreads.fine_none _ _ k.call));
         };
         kept = λ h. absurd (h (none e));
       },
