@@ -106,7 +106,7 @@ def snake(name):
 def collect():
     own, defs, fields = collections.defaultdict(set), set(), set()
     for f in antt():
-        if os.path.basename(f) in WRITTEN:
+        if "/proofs/" in f and os.path.basename(f) in WRITTEN:
             continue
         record = None
         for line in open(f, encoding="utf-8"):
@@ -156,11 +156,13 @@ def clashes(own, names):
 
 
 def turned(text, names, fields, lemmas=()):
-    """The text with each name in its new spelling; behind a dot only a field of a record or a name of a module."""
+    """The text with each name in its new spelling; behind a dot only a field of a record or a name of a module, which may stand under another name."""
+    modules = set(re.findall(r"\bas ([a-z][\w']*)", text))
 
     def one(m):
-        word, before = m.group(0), text[: m.start()]
-        if before.endswith(".") and word not in fields and not re.search(r"(?<![\w'])[A-Z][\w']*\.$", before):
+        word, before = m.group(0), text[max(0, m.start() - 80) : m.start()]
+        of = re.search(r"(?<![\w'.])([^\W\d][\w']*)\.$", before)
+        if before.endswith(".") and word not in fields and not (of and of.group(1) in modules) and not re.search(r"(?<![\w'])[A-Z][\w']*\.$", before):
             return word
         return word + "_lem" if word in lemmas else names.get(word, word)
 
@@ -218,7 +220,7 @@ def main():
                 if f == "crates/" + m + ".antt" or re.search("^use " + re.escape(path) + r"\.\{[^}]*\b" + n + r"\b", text, re.M):
                     lemmas.add(n)
         here = {o: n for o, n in names.items() if o not in theirs(text, crates)}
-        if f.endswith(".rt"):
+        if f.endswith((".rt", ".edit")):
             # a lemma's name that is in snake case already may be a function's too
             here = {o: n for o, n in here.items() if "-" in o or re.search("[A-Z]", o)}
         text = turned(text, here, fields, lemmas)
