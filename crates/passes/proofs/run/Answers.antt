@@ -31,45 +31,49 @@ unfit f e = absurd (false≢true (sym e ∙ f))
 
 pub returns-then-not-fits : goal.returns-then-not-fits
 unfolding run_on
-returns-then-not-fits c = (rw (sym c.fits2.ensures ∙ not-true _ c.if-not-fits.true), record { kept = λ e. refl })
+returns-then-not-fits c = record { runs = rw (sym c.fits.ensures ∙ c.if-not-fits.true); scratch = record { kept = λ e. refl } }
 
 pub slice_bounds-list-end : goal.slice_bounds-list-end
-slice_bounds-list-end c = let l = c.list_diodes-d in within _ _ _ (list_bounded _ _ _ _ l.ensures) l.auto.1.0
+slice_bounds-list-end c = let l = c.list_diodes-d in within _ _ _ (list_bounded _ _ _ _ l.ensures) l.auto.places
 
 pub slice_bounds-run_passes-end : goal.slice_bounds-run_passes-end
-slice_bounds-run_passes-end c = let l = c.list_diodes-d in sym (length-take-le _ _ (within _ _ _ (list_bounded _ _ _ _ l.ensures) l.auto.1.0))
+slice_bounds-run_passes-end c = let l = c.list_diodes-d in sym (length-take-le _ _ (within _ _ _ (list_bounded _ _ _ _ l.ensures) l.auto.places))
 
 pub run_passes-requires : goal.run_passes-requires
 run_passes-requires c =
     let l = c.list_diodes-d in
-    let w = within _ _ _ (list_bounded _ _ _ _ l.ensures) l.auto.1.0 in (
-      sized _ _ _ _ _ (sym c.fits2.ensures ∙ not-false _ c.if-not-fits.false),
-      record {
+    let w = within _ _ _ (list_bounded _ _ _ _ l.ensures) l.auto.places in
+    record {
+      sized = sized _ _ _ _ _ (sym c.fits.ensures ∙ c.if-not-fits.false);
+      holder = record {
         listed = listed_front _ _ _ w (list_lists _ _ _ _ l.ensures (roomy _ c.bytes-list.ensures));
         none = λ _. free _ _ _ _ (length-take-le _ _ w) c.records.ensures c.if-d-records.true;
         long = λ h. absurd (false≢true (sym h));
-      },
-    )
+      };
+    }
 
 pub returns-then-d-records : goal.returns-then-d-records
 unfolding run_on
 returns-then-d-records c =
-    let f = sym c.fits2.ensures ∙ not-false _ c.if-not-fits.false in
-    (rw f c.run_passes.ensures, record { kept = unfit f })
+    let f = sym c.fits.ensures ∙ c.if-not-fits.false in
+    record { runs = rw f c.run_passes.ensures; scratch = record { kept = unfit f } }
 
 pub slice_bounds-list-end-2 : goal.slice_bounds-list-end-2
-slice_bounds-list-end-2 c = let l = c.list_diodes-d in within _ _ _ (list_bounded _ _ _ _ l.ensures) l.auto.1.0
+slice_bounds-list-end-2 c = let l = c.list_diodes-d in within _ _ _ (list_bounded _ _ _ _ l.ensures) l.auto.places
 
 pub slice_bounds-run_held-end : goal.slice_bounds-run_held-end
-slice_bounds-run_held-end c = let l = c.list_diodes-d in sym (length-take-le _ _ (within _ _ _ (list_bounded _ _ _ _ l.ensures) l.auto.1.0))
+slice_bounds-run_held-end c = let l = c.list_diodes-d in sym (length-take-le _ _ (within _ _ _ (list_bounded _ _ _ _ l.ensures) l.auto.places))
 
 pub run_held-requires : goal.run_held-requires
 run_held-requires c =
     let l = c.list_diodes-d in
-    (sized _ _ _ _ _ (sym c.fits2.ensures ∙ not-false _ c.if-not-fits.false), listed_front _ _ _ (within _ _ _ (list_bounded _ _ _ _ l.ensures) l.auto.1.0) (list_lists _ _ _ _ l.ensures (roomy _ c.bytes-list.ensures)))
+    record {
+      sized = sized _ _ _ _ _ (sym c.fits.ensures ∙ c.if-not-fits.false);
+      listed = listed_front _ _ _ (within _ _ _ (list_bounded _ _ _ _ l.ensures) l.auto.places) (list_lists _ _ _ _ l.ensures (roomy _ c.bytes-list.ensures));
+    }
 
 pub returns : goal.returns
 unfolding run_on
 returns c =
-    let f = sym c.fits2.ensures ∙ not-false _ c.if-not-fits.false in
-    (rw f c.run_held.ensures, record { kept = unfit f })
+    let f = sym c.fits.ensures ∙ c.if-not-fits.false in
+    record { runs = rw f c.run_held.ensures; scratch = record { kept = unfit f } }

@@ -25,7 +25,7 @@ slice_bounds-run_passes-end c = sym (part _ _ c.if-n-gt-SMALL.false c.small_matr
 pub run_passes-requires : goal.run_passes-requires
 run_passes-requires c =
     let z = c.requires in
-    (z.0, holding _ _ _ _ _ z.0 z.1 (part _ _ c.if-n-gt-SMALL.false c.small_matrix-held.ensures))
+    record { sized = z.sized; holder = holding _ _ _ _ _ z.sized z.listed (part _ _ c.if-n-gt-SMALL.false c.small_matrix-held.ensures) }
 
 pub returns : goal.returns
 returns c = c.run_passes.ensures

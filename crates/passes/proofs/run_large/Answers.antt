@@ -21,15 +21,15 @@ part : (a : List Float) (n s : ℕ) → n ≤ 48 → s ≡ n * (n + 1) → lengt
 part a n s h e l = length-take-le s a (omega (arith, largest n s h e))
 
 pub slice_bounds-held-end : goal.slice_bounds-held-end
-slice_bounds-held-end c = rw c.matrix-held.ensures (largest _ _ c.requires.0.small c.requires.0.bases)
+slice_bounds-held-end c = rw c.matrix-held.ensures (largest _ _ c.requires.sized.small c.requires.sized.bases)
 
 pub slice_bounds-run_passes-end : goal.slice_bounds-run_passes-end
-slice_bounds-run_passes-end c = sym (part _ _ _ c.requires.0.small c.requires.0.bases c.matrix-held.ensures)
+slice_bounds-run_passes-end c = sym (part _ _ _ c.requires.sized.small c.requires.sized.bases c.matrix-held.ensures)
 
 pub run_passes-requires : goal.run_passes-requires
 run_passes-requires c =
     let z = c.requires in
-    (z.0, holding _ _ _ _ _ z.0 z.1 (part _ _ _ z.0.small z.0.bases c.matrix-held.ensures))
+    record { sized = z.sized; holder = holding _ _ _ _ _ z.sized z.listed (part _ _ _ z.sized.small z.sized.bases c.matrix-held.ensures) }
 
 pub returns : goal.returns
 returns c = c.run_passes.ensures

@@ -1,5 +1,4 @@
 -- `passes::run_passes` meets its contract: what is left to run from each turn is the whole, and what the last pass left is what the next would make. Assumes nothing.
--- the next pass of a live run finds what the last one left
 use Prim.Native.Nat.{ℕ, ◌<◌, ◌-◌}
 use mathlib.Core.Path.{◌≡◌, refl, sym, ap, ◌∙◌, subst}
 use mathlib.Core.Bool.{Bool, true, false, not, ◌&&◌, false≢true, and-eq-true_iff as both}
@@ -7,7 +6,6 @@ use mathlib.Core.List.{List}
 use lib.ListN.{length}
 use lib.Ieee.{Float}
 use native.Mathlib.Omega.{arith}
-use borrow.Author.Tests.{not-true, not-false}
 use Rattle.steps.specs.declared.Counters.{Counters}
 use Rattle.steps.specs.declared.Job.{Job}
 use Rattle.steps.specs.Counters.{going}
@@ -20,22 +18,8 @@ use Rattle.passes.specs.Again.{alike, Holder, Holds, Usable}
 use Rattle.passes.proofs.Again.{later, next_pass}
 use Rattle.passes.proofs.Joins.{takes_over, pass_joins}
 use borrow.Author.Rules.{rules}
+use Rattle.passes.proofs.run_passes.Invariants.{Ready}
 use Rattle.passes.proofs.run_passes.Goals as goal
-
-abbrev Ready : Circuit → Bool → Counters → List Float → List Float → List Float → List Float → List Float → List Float → Type 0
-Ready k known c a base held s v y = known ≡ true → going c ≡ true → alike c ≡ true → Holds k c a base held s v y
-
--- the buffers are as long as they were, and what is left to run from here is the whole
-record Inv (k : Circuit) (t₀ : State) (h₀ h e₀ e : List Float) (t : State) (left : ℕ) (known : Bool) : Type 0 where
-  la : length t.accepted ≡ length t₀.accepted
-  lh : length h ≡ length h₀
-  le : length e ≡ length e₀
-  ls : length t.buffers.system ≡ length t₀.buffers.system
-  lv : length t.buffers.vector ≡ length t₀.buffers.vector
-  lm : length t.buffers.memory ≡ length t₀.buffers.memory
-  lr : length t.buffers.rows ≡ length t₀.buffers.rows
-  ready : Ready k known t.counters t.accepted t₀.buffers.base h t.buffers.system t.buffers.vector t.buffers.memory
-  same : run_for (attempt_of k) k.job left t ≡ run_for (attempt_of k) k.job k.job.options.budget t₀
 
 -- a pass takes one from the budget
 taken : (j : Job) (n n₀ : ℕ) (sheet points : List ℕ) (t s r : State) (left : ℕ) → n ≡ n₀ → t ≡ pass (attempt_of (circuit_of j n sheet points)) j s → 0 < left
@@ -50,13 +34,13 @@ resize j n n₀ sheet points c a b held s v y e h = rw (← e) h
 
 -- what is ready at a live pass is usable there
 usable : (j : Job) (n n₀ h₀ : ℕ) (sheet places points : List ℕ) (known a g : Bool) (c : Counters) (acc base held s v y : List Float) → n ≡ n₀ → length held ≡ h₀ → Holder sheet places (length base) h₀
-    → Ready (circuit_of j n₀ sheet points) known c acc base held s v y → a ≡ alike c → g ≡ going c → not g ≡ false → Usable (circuit_of j n sheet points) places (known && a) c acc base held s v y
+    → Ready (circuit_of j n₀ sheet points) known c acc base held s v y → a ≡ alike c → g ≡ going c → g ≡ true → Usable (circuit_of j n sheet points) places (known && a) c acc base held s v y
 usable j n n₀ h₀ sheet places points known a g c acc base held s v y e lh holder ready ea eg live =
     rw e
     record {
       holder = rw lh holder;
       later = λ q. later c (sym ea ∙ ((both known a).0 q).1);
-      holds = λ q. ready ((both known a).0 q).0 (sym eg ∙ not-false g live) (sym ea ∙ ((both known a).0 q).1);
+      holds = λ q. ready ((both known a).0 q).0 (sym eg ∙ live) (sym ea ∙ ((both known a).0 q).1);
     }
 
 pub loop-left-init : goal.loop-left-init
@@ -84,14 +68,14 @@ pub shape_of-rows-then-not-going : goal.shape_of-rows-then-not-going
 shape_of-rows-then-not-going c = c.loop-left.invariant.lr
 
 pub returns-then-not-going : goal.returns-then-not-going
-returns-then-not-going c = sym (run_stopped _ _ _ _ (sym c.going.ensures ∙ not-true _ c.if-not-going.true)) ∙ c.loop-left.invariant.same
+returns-then-not-going c = sym (run_stopped _ _ _ _ (sym c.going.ensures ∙ c.if-not-going.true)) ∙ c.loop-left.invariant.same
 
 pub attempt-r-requires : goal.attempt-r-requires
 attempt-r-requires c =
     let i = c.loop-left.invariant in
     let z = c.requires in
-    let u = usable _ _ _ _ _ _ _ _ _ _ _ _ _ _ _ _ _ i.lv i.lh z.1 i.ready c.alike.ensures c.going.ensures c.if-not-going.false in
-    (resized _ _ _ _ _ _ _ _ _ z.0 i.lv i.la i.le i.ls, u)
+    let u = usable _ _ _ _ _ _ _ _ _ _ _ _ _ _ _ _ _ i.lv i.lh z.holder i.ready c.alike.ensures c.going.ensures c.if-not-going.false in
+    record { sized = resized _ _ _ _ _ _ _ _ _ z.sized i.lv i.la i.le i.ls; usable = u }
 
 pub take-requires : goal.take-requires
 take-requires c = c.has_inductors-inductors.ensures
@@ -100,7 +84,7 @@ pub follow-s-requires : goal.follow-s-requires
 follow-s-requires c =
     let i = c.loop-left.invariant in
     let z = c.requires in
-    c.attempt-r.auto.1.1.1.1.1.1.1.1.1.1.1.0 ∙ (i.lv ∙ (sym z.0.vectors ∙ sym i.la))
+    c.attempt-r.auto.vector ∙ (i.lv ∙ (sym z.sized.vectors ∙ sym i.la))
 
 pub overflow_sub-left : goal.overflow_sub-left
 overflow_sub-left c = omega (arith, c.loop-left-test.true)
@@ -110,26 +94,24 @@ loop-left-smaller c = omega (arith, c.loop-left-test.true)
 
 pub loop-left-preserved : goal.loop-left-preserved
 loop-left-preserved c =
-    let c10 = c.before.before.before.before.before.before.before.before.before.before in
-    let c23 = c10.before.before.before.before.before.before.before.before.before.before.before.before.before in
     let l = c.loop-left in
     let i = l.invariant in
-    let t = c23.attempt-r in
-    let y = c10.take in
+    let t = c.attempt-r in
+    let y = c.take in
     let x = c.follow-s in
-    let live = sym c.going.ensures ∙ not-false _ c.if-not-going.false in
-    let lv = t.auto.1.1.1.1.1.1.1.1.1.1.1.0 in
-    let took = takes_over _ _ _ _ _ _ _ _ _ _ _ _ (sym lv) t.ensures.0 y.ensures in
+    let live = sym c.going.ensures ∙ c.if-not-going.false in
+    let lv = t.auto.vector in
+    let took = takes_over _ _ _ _ _ _ _ _ _ _ _ _ (sym lv) t.ensures.all y.ensures in
     let passed = pass_joins _ _ _ _ _ _ _ _ _ _ _ _ _ _ _ took _ live x.ensures in
     record {
-      la = x.auto.1.1.1.0 ∙ i.la;
-      lh = t.auto.1.1.1.1.1.1.1.1.0 ∙ i.lh;
-      le = t.auto.1.1.1.1.1.1.1.1.1.0 ∙ i.le;
-      ls = t.auto.1.1.1.1.1.1.1.1.1.1.0 ∙ i.ls;
+      la = x.auto.accepted ∙ i.la;
+      lh = t.auto.held ∙ i.lh;
+      le = t.auto.elimination ∙ i.le;
+      ls = t.auto.system ∙ i.ls;
       lv = lv ∙ i.lv;
-      lm = y.auto.1.1.1.1.1.1.0 ∙ (t.auto.1.1.1.1.1.1.1.1.1.1.1.1.0 ∙ i.lm);
-      lr = x.auto.1.1.1.1.1.0 ∙ i.lr;
-      ready = λ k g b. resize _ _ _ _ _ _ _ _ _ _ _ _ i.lv (next_pass _ _ _ _ _ _ _ _ _ _ _ _ _ _ _ t.ensures.1 y.ensures _ x.ensures g b);
+      lm = y.auto.memory ∙ (t.auto.memory ∙ i.lm);
+      lr = x.auto.rows ∙ i.lr;
+      ready = λ k g b. resize _ _ _ _ _ _ _ _ _ _ _ _ i.lv (next_pass _ _ _ _ _ _ _ _ _ _ _ _ _ _ _ t.ensures.left y.ensures _ x.ensures g b);
       same = taken _ _ _ _ _ _ _ _ l.left i.lv passed c.loop-left-test.true i.same;
     }
 

@@ -5,7 +5,6 @@ use mathlib.Core.List.{List}
 use lib.ListN.{length}
 use lib.Ieee.{Float}
 use native.Mathlib.Omega.{arith}
-use borrow.Author.Tests.{not-true, not-false}
 use Rattle.steps.specs.declared.Counters.{Counters}
 use Rattle.steps.specs.declared.Job.{Job}
 use Rattle.steps.specs.Counters.{going}
@@ -19,6 +18,22 @@ use Rattle.passes.proofs.Again.{later, next_pass}
 use Rattle.passes.proofs.Joins.{takes_over, pass_joins}
 use borrow.Author.Rules.{rules}
 use Rattle.passes.proofs.run_passes.Given as goal
+
+-- the next pass of a live run finds what the last one left
+abbrev pub Ready : Circuit → Bool → Counters → List Float → List Float → List Float → List Float → List Float → List Float → Type 0
+Ready k known c a base held s v y = known ≡ true → going c ≡ true → alike c ≡ true → Holds k c a base held s v y
+
+-- the buffers are as long as they were, and what is left to run from here is the whole
+pub record Inv (k : Circuit) (t₀ : State) (h₀ h e₀ e : List Float) (t : State) (left : ℕ) (known : Bool) : Type 0 where
+  pub la : length t.accepted ≡ length t₀.accepted
+  pub lh : length h ≡ length h₀
+  pub le : length e ≡ length e₀
+  pub ls : length t.buffers.system ≡ length t₀.buffers.system
+  pub lv : length t.buffers.vector ≡ length t₀.buffers.vector
+  pub lm : length t.buffers.memory ≡ length t₀.buffers.memory
+  pub lr : length t.buffers.rows ≡ length t₀.buffers.rows
+  pub ready : Ready k known t.counters t.accepted t₀.buffers.base h t.buffers.system t.buffers.vector t.buffers.memory
+  pub same : run_for (attempt_of k) k.job left t ≡ run_for (attempt_of k) k.job k.job.options.budget t₀
 
 abbrev pub invariant-loop-left : goal.invariant-loop-left
 invariant-loop-left l = Inv (circuit_of l.j (length l.initial.vector) l.sheet l.points) (state_of l.initial.s l.initial.accepted (buffers_of l.base l.initial.system l.initial.vector l.initial.memory l.initial.rows)) l.initial.held l.held l.initial.elimination l.elimination (state_of l.s l.accepted (buffers_of l.base l.system l.vector l.memory l.rows)) l.left l.known

@@ -1,7 +1,6 @@
 -- `passes::take` meets its contract: without inductors nothing would be taken; else by whether the vector is taken. Assumes nothing.
 use mathlib.Core.Path.{sym, ◌∙◌}
 use borrow.Author.Rules.{rules}
-use borrow.Author.Tests.{not-true}
 use Rattle.loops.specs.Laws.Loop.{either_same}
 use Rattle.groups.specs.Laws.Storage.{nothing_taken}
 use lib.ListN.{length}
@@ -15,7 +14,7 @@ unfolding memory_after
 returns-then-not-inductors c =
     let z = c.requires in
     let a = c.args in
-    let same = nothing_taken (pass_of a.j (length a.vector.now) a.c) a.sheet.now a.vector.now a.memory.now (sym z ∙ not-true _ c.if-not-inductors.true) in
+    let same = nothing_taken (pass_of a.j (length a.vector.now) a.c) a.sheet.now a.vector.now a.memory.now (sym z ∙ c.if-not-inductors.true) in
     sym (rw same (either_same (takes a.j a.c a.report)))
 
 pub returns-then-takes : goal.returns-then-takes

@@ -11,10 +11,10 @@ use Rattle.passes.proofs.attempt.attempt.Goals as goal
 pub returns-then-j-eq0 : goal.returns-then-j-eq0
 returns-then-j-eq0 c =
     let p = c.solve_pass-r.ensures in
-    (waits _ _ _ _ _ _ _ _ _ _ _ _ p.0 (sym (waited_off _ _ (ap not (eq-eqb _ _ c.if-j-eq0.true)) _)), p.1)
+    record { all = waits _ _ _ _ _ _ _ _ _ _ _ _ p.all (sym (waited_off _ _ (ap not (eq-eqb _ _ c.if-j-eq0.true)) _)); left = p.left }
 
 pub returns : goal.returns
 returns c =
     let p = c.solve_pass-r.ensures in
     let w = c.wait.ensures in
-    (waits _ _ _ _ _ _ _ _ _ _ _ _ p.0 w, λ s. p.1 (sym (waited_solved _ _ _) ∙ (ap solved (sym w) ∙ s)))
+    record { all = waits _ _ _ _ _ _ _ _ _ _ _ _ p.all w; left = λ s. p.left (sym (waited_solved _ _ _) ∙ (ap solved (sym w) ∙ s)) }

@@ -13,12 +13,12 @@ returns-then-k-ne0 c =
     let a = c.args in
     rw c.failure.ensures
     (finish_failed _ _ _ a.elimination.now a.system.now a.vector.now a.memory.now _ _ _
-    (c.stamp_diodes-k.ensures ∙ listed_whole _ a.sheet.now a.places.now _ a.vector.now a.elimination.now a.memory.now c.requires.1) c.if-k-ne0.true)
+    (c.stamp_diodes-k.ensures ∙ listed_whole _ a.sheet.now a.places.now _ a.vector.now a.elimination.now a.memory.now c.requires.listed) c.if-k-ne0.true)
 
 pub renew-requires : goal.renew-requires
 renew-requires c =
-    let z = c.requires.0.0 in
-    record { some = z.some; small = z.small; cells = c.stamp_diodes-k.auto.1.1.1.1.1.1.0 ∙ z.cells }
+    let z = c.requires.square.0 in
+    record { some = z.some; small = z.small; cells = c.stamp_diodes-k.auto.m ∙ z.cells }
 
 pub returns : goal.returns
 returns c =
@@ -26,5 +26,5 @@ returns c =
     let z = c.requires in
     let d = c.stamp_diodes-k in
     finish_solved _ _ _ a.elimination.now a.system.now a.vector.now a.memory.now _ _ _
-    (d.ensures ∙ listed_whole _ a.sheet.now a.places.now _ a.vector.now a.elimination.now a.memory.now z.1)
-    c.if-k-ne0.false _ _ _ (c.copy.ensures ∙ copied_same _ _ (d.auto.1.1.1.1.1.1.0 ∙ sym z.0.1)) c.renew.ensures
+    (d.ensures ∙ listed_whole _ a.sheet.now a.places.now _ a.vector.now a.elimination.now a.memory.now z.listed)
+    c.if-k-ne0.false _ _ _ (c.copy.ensures ∙ copied_same _ _ (d.auto.m ∙ sym z.square.1)) c.renew.ensures

@@ -36,38 +36,42 @@ alone false b e h = refl
 
 pub returns-then-held-again : goal.returns-then-held-again
 returns-then-held-again c =
-    let u = c.requires.1 in
+    let u = c.requires.usable in
     let b = (both (bare (length c.args.held.now)) _).0 c.if-held-again.true in
     let h = u.holds b.1 in
-    (rw c.compare.ensures (repeated _ _ _ _ _ _ _ _ _ u.holder b.0 (h.whole b.0).0 (h.whole b.0).1 (u.later b.1)), λ _. h)
+    record { all = rw c.compare.ensures (repeated _ _ _ _ _ _ _ _ _ u.holder b.0 (h.whole b.0).0 (h.whole b.0).1 (u.later b.1)); left = λ _. h }
 
 pub stamp_first-k-requires : goal.stamp_first-k-requires
 stamp_first-k-requires c =
-    let z = c.requires in (
-      z.0.works ∙ sym z.0.bases,
-      λ a.
+    let z = c.requires in
+    record {
+      elimination_len = z.sized.works ∙ sym z.sized.bases;
+      held_len = λ a.
           let d = alone _ _ c.if-held-again.false a in
-          (z.1.holder.long d, rw c.pass_of-p.ensures ((z.1.holds a).part d)),
-    )
+          (z.usable.holder.long d, rw c.pass_of-p.ensures ((z.usable.holds a).part d));
+    }
 
 pub returns-then-k-ne0 : goal.returns-then-k-ne0
 returns-then-k-ne0 c =
     let t = c.stamp_first-k in
-    (rw c.failure.ensures (unstamped _ _ _ _ _ _ _ _ _ (rw c.pass_of-p.ensures at t.ensures.0) c.if-k-ne0.true), λ s. absurd (unsolved _ _ c.failure.ensures s))
+    record { all = rw c.failure.ensures (unstamped _ _ _ _ _ _ _ _ _ (rw c.pass_of-p.ensures at t.ensures.stamps) c.if-k-ne0.true); left = λ s. absurd (unsolved _ _ c.failure.ensures s) }
 
 pub finish-requires : goal.finish-requires
 finish-requires c =
     let z = c.requires in
-    let l = c.stamp_first-k.auto.1.1.1.1.1.1.1.1.0 ∙ z.0.works in
-    ((record { some = z.0.some; small = z.0.small; cells = l }, z.0.systems ∙ sym l), z.1.holder.listed)
+    let l = c.stamp_first-k.auto.elimination ∙ z.sized.works in
+    record { square = (record { some = z.sized.some; small = z.sized.small; cells = l }, z.sized.systems ∙ sym l); listed = z.usable.holder.listed }
 
 pub returns : goal.returns
 returns c =
-    let u = c.requires.1 in
+    let u = c.requires.usable in
     let t = c.stamp_first-k in
     let a = c.args in
     let k = c.if-k-ne0.false in
-    let e = whole_code _ _ _ k (rw c.pass_of-p.ensures at t.ensures.0) in
+    let e = whole_code _ _ _ k (rw c.pass_of-p.ensures at t.ensures.stamps) in
     let f = c.finish.ensures in
-    let lh = t.auto.1.1.1.1.1.1.1.0 in
-    (f ∙ stamped_first _ _ _ _ _ _ _ _ e refl, λ _. leaves _ _ _ _ a.system.now a.vector.now a.memory.now _ _ _ _ _ _ _ (held-as _ _ _ _ _ lh u.holder) refl e (λ h. t.ensures.1 (u.holder.long (ap bare (sym lh) ∙ h)) k) f)
+    let lh = t.auto.held in
+    record {
+      all = f ∙ stamped_first _ _ _ _ _ _ _ _ e refl;
+      left = λ _. leaves _ _ _ _ a.system.now a.vector.now a.memory.now _ _ _ _ _ _ _ (held-as _ _ _ _ _ lh u.holder) refl e (λ h. t.ensures.holds (u.holder.long (ap bare (sym lh) ∙ h)) k) f;
+    }

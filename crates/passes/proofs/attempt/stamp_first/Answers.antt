@@ -9,12 +9,12 @@ use Rattle.passes.proofs.attempt.stamp_first.Goals as goal
 pub returns-then-again : goal.returns-then-again
 returns-then-again c =
     let z = c.requires in
-    let k = z.1 c.if-again.true in
-    let e = c.copy.ensures ∙ copied_same _ _ (k.0 ∙ sym z.0) in
-    (ap (driven_of 0) e ∙ sym k.1, λ _ _. sym e)
+    let k = z.held_len c.if-again.true in
+    let e = c.copy.ensures ∙ copied_same _ _ (k.0 ∙ sym z.elimination_len) in
+    record { stamps = ap (driven_of 0) e ∙ sym k.1; holds = λ _ _. sym e }
 
 pub returns : goal.returns
 returns c =
     let z = c.requires in
     let t = c.stamp_linear-k in
-    (t.ensures ∙ linear_anew _ _ _ _ _ _ _ (sym z.0), λ h _. c.copy-2.ensures ∙ copied_same _ _ (t.auto.1.1.1.1.1.1.0 ∙ (z.0 ∙ sym h)))
+    record { stamps = t.ensures ∙ linear_anew _ _ _ _ _ _ _ (sym z.elimination_len); holds = λ h _. c.copy-2.ensures ∙ copied_same _ _ (t.auto.matrix ∙ (z.elimination_len ∙ sym h)) }

@@ -30,7 +30,7 @@ accepted Diode h = absurd (false≢true h)
 accepted Sine h = absurd (false≢true h)
 
 pub returns-then-not-accepts : goal.returns-then-not-accepts
-returns-then-not-accepts c = unmoved _ _ _ (sym c.accepts.ensures ∙ not-true _ c.if-not-accepts.true)
+returns-then-not-accepts c = unmoved _ _ _ (sym c.accepts.ensures ∙ c.if-not-accepts.true)
 
 pub returns-then-o-eq0 : goal.returns-then-o-eq0
 returns-then-o-eq0 c = sym (waited_off _ _ (ap not (eq-eqb _ _ c.if-o-eq0.true)) _)
@@ -41,6 +41,6 @@ returns-then-behind_number-eq0 c = sym (waited_none _ _ (eq-eqb _ _ (sym c.behin
 pub returns : goal.returns
 returns c =
     let a = c.args in
-    let y = accepted a.r (sym c.accepts.ensures ∙ not-false _ c.if-not-accepts.false) in
+    let y = accepted a.r (sym c.accepts.ensures ∙ c.if-not-accepts.false) in
     let b = behind_number a.o a.sheet.now a.vector.now a.memory.now in
     sym (ap (waited a.o b) y ∙ waited_held a.o b (ap not (ne_eqb _ _ c.if-o-eq0.false)) (ne_eqb _ _ (λ e. c.if-behind_number-eq0.false (c.behind_number.ensures ∙ e))))
