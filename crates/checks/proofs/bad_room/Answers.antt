@@ -4,7 +4,6 @@ use native.Mathlib.Nat.{lt_of_le_of_lt, mul-le-mul}
 use Prim.Native.Nat.{◌*◌}
 use mathlib.Core.Path.{refl}
 use Rattle.checks.specs.Checks.{bad_room}
-use borrow.Author.Rules.{rules}
 use Rattle.checks.proofs.bad_room.Goals as goal
 
 pub overflow_mul-cells : goal.overflow_mul-cells

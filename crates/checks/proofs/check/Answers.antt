@@ -1,6 +1,5 @@
 use borrow.Author.Tests.{eq-eqb, ne_eqb}
 use Rattle.checks.specs.Checks.{checked_of}
-use borrow.Author.Rules.{rules}
 use Rattle.checks.proofs.check.Goals as goal
 
 pub returns-then-k-ne0 : goal.returns-then-k-ne0

@@ -1,7 +1,6 @@
 use mathlib.Core.Path.{sym, ◌∙◌}
 use Rattle.checks.specs.Checks.{sizes_refusal}
 use Rattle.checks.specs.Laws.Checks.{order_small}
-use borrow.Author.Rules.{rules}
 use Rattle.checks.proofs.refusal.Goals as goal
 
 pub returns-then-bad_order : goal.returns-then-bad_order
