@@ -1,5 +1,4 @@
 -- `stamps::put_at` meets its contract: one write at its spot, or past the end none. Assumes nothing.
-use borrow.Author.Rules.{rules}
 use mathlib.Core.Path.{sym}
 use Rattle.stamps.proofs.Writes.{within, beyond}
 use Rattle.stamps.proofs.put_at.Goals as goal

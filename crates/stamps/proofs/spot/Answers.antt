@@ -1,8 +1,6 @@
 -- `stamps::spot` meets its contract: an entry that lands stands below 48 times 49, so nothing wraps. Assumes nothing.
-use borrow.Author.Rules.{rules}
 use mathlib.Core.Path.{sym, ◌∙◌}
 use native.Mathlib.Omega.{arith}
-use Rattle.stamps.specs.Write.{lands}
 use Rattle.stamps.specs.Laws.Write.{landed, place_small}
 use Rattle.stamps.proofs.spot.Goals as goal
 

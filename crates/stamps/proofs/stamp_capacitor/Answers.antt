@@ -1,5 +1,4 @@
 -- `stamps::stamp_capacitor` meets its contract: one list of writes after the other is the joined list. Assumes nothing.
-use borrow.Author.Rules.{rules}
 use mathlib.Core.Path.{sym, ap, ◌∙◌}
 use Rattle.stamps.specs.Write.{stamped}
 use Rattle.stamps.specs.Kinds.{capacitor_writes}

@@ -1,5 +1,4 @@
 -- `stamps::stamp_conductance` meets its contract: its four calls are its four writes. Assumes nothing.
-use borrow.Author.Rules.{rules}
 use Rattle.stamps.specs.Write.{stamped}
 use Rattle.stamps.specs.Kinds.{conductance_writes}
 use Rattle.stamps.proofs.stamp_conductance.Goals as goal

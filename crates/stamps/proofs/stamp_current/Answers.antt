@@ -1,5 +1,4 @@
 -- `stamps::stamp_current` meets its contract: its two calls are its two writes. Assumes nothing.
-use borrow.Author.Rules.{rules}
 use Rattle.stamps.specs.Write.{stamped}
 use Rattle.stamps.specs.Kinds.{current_writes}
 use Rattle.stamps.proofs.stamp_current.Goals as goal

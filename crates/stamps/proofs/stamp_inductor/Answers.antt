@@ -1,5 +1,4 @@
 -- `stamps::stamp_inductor` meets its contract: two lists of writes and one write more, one after the other, are the joined list. Assumes nothing.
-use borrow.Author.Rules.{rules}
 use Prim.Native.Nat.{ℕ}
 use mathlib.Core.Path.{◌≡◌, sym, ap, ◌∙◌}
 use mathlib.Core.List.{List, [], ◌∷◌, ◌++◌}

@@ -1,5 +1,4 @@
 -- `stamps::stamp_vcvs` meets its contract: its six calls are its six writes. Assumes nothing.
-use borrow.Author.Rules.{rules}
 use Rattle.stamps.specs.Write.{stamped}
 use Rattle.stamps.specs.Kinds.{vcvs_writes}
 use Rattle.stamps.proofs.stamp_vcvs.Goals as goal

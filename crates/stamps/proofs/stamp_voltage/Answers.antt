@@ -1,5 +1,4 @@
 -- `stamps::stamp_voltage` meets its contract: its five calls are its five writes. Assumes nothing.
-use borrow.Author.Rules.{rules}
 use Rattle.stamps.specs.Write.{stamped}
 use Rattle.stamps.specs.Kinds.{voltage_writes}
 use Rattle.stamps.proofs.stamp_voltage.Goals as goal
