@@ -1,12 +1,7 @@
-use Rattle.loops.specs.Loop.{turns}
 use Rattle.loops.specs.Laws.Loop.{more, done}
-use Rattle.convergence.specs.Convergence.{place_at, checked}
-use Rattle.convergence.specs.declared.Convergence.TheVariants.{Yes}
-use lib.ListN.{length}
+use Rattle.convergence.specs.Convergence.{checked}
 use native.Mathlib.Omega.{arith}
-use mathlib.Core.Path.{◌≡◌, refl, sym, ◌∙◌}
-use Prim.Native.Nat.{ℕ, ◌≤◌, ◌<◌, ◌+◌, ◌-◌}
-use borrow.Author.Rules.{rules}
+use mathlib.Core.Path.{◌∙◌}
 use Rattle.convergence.proofs.check.Goals as goal
 
 pub loop-i-preserved : goal.loop-i-preserved

@@ -1,12 +1,9 @@
 use Rattle.loops.specs.Loop.{turns}
-use Rattle.loops.specs.Laws.Loop.{more, done}
-use Rattle.convergence.specs.Convergence.{place_at, checked}
+use Rattle.convergence.specs.Convergence.{place_at}
 use Rattle.convergence.specs.declared.Convergence.TheVariants.{Yes}
 use lib.ListN.{length}
-use native.Mathlib.Omega.{arith}
-use mathlib.Core.Path.{◌≡◌, refl, sym, ◌∙◌}
-use Prim.Native.Nat.{ℕ, ◌≤◌, ◌<◌, ◌+◌, ◌-◌}
-use borrow.Author.Rules.{rules}
+use mathlib.Core.Path.{◌≡◌}
+use Prim.Native.Nat.{◌≤◌}
 use Rattle.convergence.proofs.check.Given as goal
 
 abbrev pub invariant-loop-i : goal.invariant-loop-i

@@ -1,6 +1,5 @@
 use Rattle.convergence.specs.Convergence.{convergence_of}
 use borrow.Author.Tests.{lt-ltb, le-ltb}
-use borrow.Author.Rules.{rules}
 use Rattle.convergence.proofs.convergence_check.Goals as goal
 
 pub returns-then-y-x : goal.returns-then-y-x

@@ -1,5 +1,4 @@
 use Rattle.convergence.specs.Convergence.{limit}
-use borrow.Author.Rules.{rules}
 use Rattle.convergence.proofs.limit.Goals as goal
 
 pub returns-then-node : goal.returns-then-node

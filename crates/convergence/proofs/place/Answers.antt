@@ -1,6 +1,5 @@
 use Rattle.convergence.specs.Convergence.{place}
-use mathlib.Core.Path.{◌≡◌, sym, ◌∙◌}
-use borrow.Author.Rules.{rules}
+use mathlib.Core.Path.{sym, ◌∙◌}
 use Rattle.convergence.proofs.place.Goals as goal
 
 pub returns-then-limit-absolute : goal.returns-then-limit-absolute
