@@ -25,9 +25,9 @@ use Rattle.steps.specs.Laws.Waited.{waited_caught}
 use Rattle.steps.specs.Laws.Switched.{with_catchup}
 use Rattle.machine.specs.State.{Buffers, State, Attempt}
 use Rattle.machine.specs.Machine.{compared, tried, took, tried_by, accepts, dc_pass, step_pass, pass, run_for}
-use Rattle.machine.specs.Laws.Settles.{ends_with_yes}
-use Rattle.machine.specs.Laws.Taken.{holds_of_both}
-use Rattle.machine.specs.Laws.Switched.{Ahead, Pair, same, apart, pairs}
+use Rattle.machine.proofs.Laws.Settles.{ends_with_yes}
+use Rattle.machine.proofs.Laws.Taken.{holds_of_both}
+use Rattle.machine.proofs.Laws.Switched.{Ahead, Pair, same, apart, pairs}
 use Rattle.passes.specs.Attempt.{Circuit, pass_of, attempt_of}
 use Rattle.passes.specs.Laws.Switched.{behind_same, attempts_same}
 use Rattle.engine.specs.Work.{start_of, end_of, behind_in}

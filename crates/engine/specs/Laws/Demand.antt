@@ -17,8 +17,8 @@ use Rattle.checks.specs.Laws.Checks.{fine, clean_fine}
 use Rattle.checks.specs.Laws.Table.{NoneMet, none_met, clean_none_met, Met, «by-sizes», «by-record», refused_met}
 use Rattle.steps.specs.Counters.{top, verdict_of}
 use Rattle.machine.specs.State.{Buffers}
-use Rattle.machine.specs.Laws.OneVerdict.{Verdict}
-use Rattle.machine.specs.Laws.NoSine.{DcVerdict}
+use Rattle.machine.proofs.Laws.OneVerdict.{Verdict}
+use Rattle.machine.proofs.Laws.NoSine.{DcVerdict}
 use Rattle.engine.specs.declared.Ending.{Ending}
 use Rattle.engine.specs.declared.Outcome.{Outcome}
 use Rattle.engine.specs.declared.Outcome.TheVariants.{Refused, Ended}

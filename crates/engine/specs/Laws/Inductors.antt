@@ -32,8 +32,8 @@ use Rattle.steps.specs.Phases.{dc_phase, transient_phase}
 use Rattle.machine.specs.State.{State, Attempted}
 use Rattle.machine.specs.Machine.{compared, tried, accepts, took, tried_by, dc_pass, step_pass, pass}
 use Rattle.machine.specs.Laws.Budget.{pass_dc, pass_step}
-use Rattle.machine.specs.Laws.Taken as machine
-use Rattle.machine.specs.Laws.Taken.{DcEnds}
+use Rattle.machine.proofs.Laws.Taken as machine
+use Rattle.machine.proofs.Laws.Taken.{DcEnds}
 use Rattle.passes.specs.Attempt.{Circuit, pass_of, attempt_of}
 use Rattle.passes.specs.Laws.Attempt.{attempt_memory}
 use Rattle.engine.specs.Begin.{remembers, forget_at, forgotten}

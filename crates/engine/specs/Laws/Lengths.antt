@@ -24,7 +24,7 @@ use Rattle.steps.specs.declared.Job.{Job}
 use Rattle.groups.specs.declared.Pass.{Pass}
 use Rattle.machine.specs.State.{Buffers, buffers_of, State, Solved}
 use Rattle.machine.specs.Machine.{compared, tried, took, tried_by, accepts, dc_pass, step_pass, pass, run_for}
-use Rattle.machine.specs.Laws.Taken.{holds_of_both}
+use Rattle.machine.proofs.Laws.Taken.{holds_of_both}
 use Rattle.passes.specs.Attempt.{Circuit, pass_of, attempt_of}
 use Rattle.passes.specs.Laws.Attempt.{steady, attempt_memory}
 use Rattle.engine.specs.Begin.{remembers, forget_at, forgotten}

@@ -2,7 +2,7 @@
 -- Clients cite dc_verdict and dc_run_verdict. Assumes nothing.
 use Rattle.std.specs.Prelude.{◌≡◌, false}
 use Rattle.steps.specs.Counters.{verdict_of, dc_verdict_of}
-use Rattle.machine.specs.Laws.NoSine.{DcVerdict, begins_free, dc_reads, dc_run_reads}
+use Rattle.machine.proofs.Laws.NoSine.{DcVerdict, begins_free, dc_reads, dc_run_reads}
 use Rattle.passes.specs.Laws.NoSine.{sine_free}
 use Rattle.engine.specs.Work.{end_of}
 use Rattle.engine.specs.Engine.{Call, circuit, last_of}

@@ -11,9 +11,9 @@ use Rattle.checks.specs.Laws.Checks.{fine, clean_fine}
 use Rattle.steps.specs.Counters.{top, verdict_of}
 use Rattle.machine.specs.State.{State, Attempt}
 use Rattle.machine.specs.Laws.Budget.{run_base}
-use Rattle.machine.specs.Laws.OneVerdict.{Verdict, begins_told, one_verdict, still_going}
-use Rattle.machine.specs.Laws.Units.{units, within, passes_at_24}
-use Rattle.machine.specs.Laws.Rows.{Grown, run_grown}
+use Rattle.machine.proofs.Laws.OneVerdict.{Verdict, begins_told, one_verdict, still_going}
+use Rattle.machine.proofs.Laws.Units.{units, within, passes_at_24}
+use Rattle.machine.proofs.Laws.Rows.{Grown, run_grown}
 use Rattle.passes.specs.Attempt.{attempt_of}
 use Rattle.passes.specs.Laws.Attempt.{steady}
 use Rattle.engine.specs.Work.{base_on, start_of, end_of}

@@ -9,7 +9,6 @@ use Rattle.steps.specs.declared.Counters.{Counters}
 use Rattle.steps.specs.declared.Report.{Report}
 use Rattle.steps.specs.Phases.{dc_phase}
 use Rattle.machine.specs.Machine.{accepts, accepted_by}
-use borrow.Author.Rules.{rules}
 use Rattle.machine.proofs.accept.Goals as goal
 
 module _ (r : Report) (c : Counters) (b : Bool) (a v : List Float) (e : b ≡ accepts r) where

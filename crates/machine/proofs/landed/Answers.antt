@@ -1,6 +1,5 @@
-use mathlib.Core.Path.{◌≡◌, sym, ◌∙◌}
+use mathlib.Core.Path.{sym, ◌∙◌}
 use Rattle.machine.specs.Machine.{landed}
-use borrow.Author.Rules.{rules}
 use Rattle.machine.proofs.landed.Goals as goal
 
 pub returns-then-row_due : goal.returns-then-row_due

@@ -1,5 +1,4 @@
 -- `machine::takes` meets its contract. Assumes nothing.
-use borrow.Author.Rules.{rules}
 use borrow.Author.Tests.{eq-eqb, ne_eqb}
 use Rattle.machine.specs.Machine.{takes}
 use Rattle.machine.proofs.takes.Goals as goal

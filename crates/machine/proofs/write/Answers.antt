@@ -1,12 +1,11 @@
-use mathlib.Core.Path.{◌≡◌, ◌∙◌}
-use Prim.Native.Nat.{ℕ, ◌+◌, ◌*◌, ◌≤◌}
+use mathlib.Core.Path.{◌∙◌}
+use Prim.Native.Nat.{◌+◌, ◌*◌, ◌≤◌}
 use lib.ListN.{length}
 use native.Mathlib.Omega.{arith}
 use borrow.Author.Tests.{lt-ltb, le-ltb}
 use Rattle.loops.specs.Laws.Loop.{row_fits_lem}
 use Rattle.machine.specs.Machine.{written_by}
-use Rattle.machine.specs.Laws.Rows.{row_room}
-use borrow.Author.Rules.{rules}
+use Rattle.machine.proofs.Laws.Rows.{row_room}
 use Rattle.machine.proofs.write.Goals as goal
 
 pub overflow_mul-k : goal.overflow_mul-k

@@ -4,7 +4,7 @@ use Rattle.groups.specs.Diodes.{Stamped}
 use Rattle.groups.specs.Stamping.{stamp_of}
 use Rattle.solve.specs.Laws.Solve.{solution-length}
 use Rattle.machine.specs.State.{Solved, Buffers}
-use Rattle.machine.specs.Laws.Rows.{Steady}
+use Rattle.machine.proofs.Laws.Rows.{Steady}
 use Rattle.steps.specs.declared.Counters.{Counters}
 use Rattle.passes.specs.Attempt.{Circuit, pass_of, solved_from, attempt_of}
 

@@ -5,7 +5,7 @@ use Rattle.numbers.specs.Verdicts.{diode_current}
 use Rattle.groups.specs.Stamping.{stamp_of}
 use Rattle.groups.specs.Laws.SineAtZero.{stamp_in_dc}
 use Rattle.machine.specs.State.{Solved}
-use Rattle.machine.specs.Laws.NoSine.{SineFree}
+use Rattle.machine.proofs.Laws.NoSine.{SineFree}
 use Rattle.passes.specs.Attempt.{Circuit, pass_of, attempt_of}
 
 -- solved, or ended as the stamping was

@@ -20,7 +20,7 @@ use Rattle.checks.specs.declared.Sizes.{Sizes}
 use Rattle.checks.specs.Checks.{order, cells, limits_of, bad_order, bad_counts, bad_room, sizes_refusal, checked_of}
 use Rattle.checks.specs.Laws.Checks.{cond_none}
 use Rattle.steps.specs.Counters.{verdict_of}
-use Rattle.machine.specs.Laws.NoSine.{DcVerdict, «dc-settled», «dc-passes-used», «dc-diverged», «dc-diode», «dc-spent»}
+use Rattle.machine.proofs.Laws.NoSine.{DcVerdict, «dc-settled», «dc-passes-used», «dc-diverged», «dc-diode», «dc-spent»}
 use Rattle.engine.specs.Work.{zeros}
 use Rattle.engine.specs.Engine.{Call, sizes, checked_call}
 use Rattle.engine.specs.Laws.Lengths.{last_held}

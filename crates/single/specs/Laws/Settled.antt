@@ -31,7 +31,7 @@ use Rattle.steps.specs.Laws.Waited.{waited_yes}
 use Rattle.steps.specs.declared.Job.{Job}
 use Rattle.machine.specs.State.{State, Attempt}
 use Rattle.machine.specs.Machine.{before, compared, tried, took, tried_by}
-use Rattle.machine.specs.Laws.Settles.{ends_with_yes}
+use Rattle.machine.proofs.Laws.Settles.{ends_with_yes}
 use Rattle.passes.specs.Attempt.{attempt_of}
 use Rattle.engine.specs.Work.{start_of, end_of}
 use Rattle.engine.specs.Engine.{Call, sizes, circuit, last_of}

@@ -1,6 +1,5 @@
 use Rattle.steps.specs.Control.{dc_after}
 use borrow.Author.Tests.{lt-ltb, le-ltb}
-use borrow.Author.Rules.{rules}
 use Rattle.steps.proofs.dc_after.Goals as goal
 
 pub returns-then-o-d : goal.returns-then-o-d

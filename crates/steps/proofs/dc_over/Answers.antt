@@ -1,5 +1,4 @@
 use Rattle.steps.specs.Control.{dc_over}
-use borrow.Author.Rules.{rules}
 use Rattle.steps.proofs.dc_over.Goals as goal
 
 pub returns-then-transient : goal.returns-then-transient

@@ -1,6 +1,5 @@
 use Rattle.steps.specs.Control.{eased}
 use borrow.Author.Tests.{lt-ltb, le-ltb}
-use borrow.Author.Rules.{rules}
 use Rattle.steps.proofs.eased.Goals as goal
 
 pub returns-then-c : goal.returns-then-c

@@ -1,5 +1,4 @@
 use Rattle.steps.specs.Control.{moved}
-use borrow.Author.Rules.{rules}
 use Rattle.steps.proofs.moved.Goals as goal
 
 pub returns-then-o-t : goal.returns-then-o-t

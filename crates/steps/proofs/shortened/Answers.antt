@@ -1,5 +1,4 @@
 use Rattle.steps.specs.Control.{shortened}
-use borrow.Author.Rules.{rules}
 use Rattle.steps.proofs.shortened.Goals as goal
 
 pub returns-then-d-least : goal.returns-then-d-least

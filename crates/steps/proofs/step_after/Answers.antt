@@ -1,6 +1,5 @@
 use Rattle.steps.specs.Control.{step_after}
 use borrow.Author.Tests.{le-leb, lt-leb}
-use borrow.Author.Rules.{rules}
 use Rattle.steps.proofs.step_after.Goals as goal
 
 pub returns-then-o-d : goal.returns-then-o-d

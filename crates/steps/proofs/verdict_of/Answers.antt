@@ -1,6 +1,5 @@
 use Rattle.steps.specs.Counters.{verdict_of}
-use mathlib.Core.Path.{◌≡◌, sym, ◌∙◌}
-use borrow.Author.Rules.{rules}
+use mathlib.Core.Path.{sym, ◌∙◌}
 use Rattle.steps.proofs.verdict_of.Goals as goal
 
 pub returns-then-going : goal.returns-then-going

@@ -1,7 +1,7 @@
 -- What waiting for a diode does to a report: it turns "yes" to "no" or changes nothing. Clients cite all that is `pub`. Assumes nothing.
 use Rattle.std.specs.Prelude.{ℕ, Bool}
 use Rattle.std.proofs.Math.Path.{◌≡◌, refl}
-use Rattle.std.proofs.Common.{sym, ◌∙◌, arith}
+use Rattle.std.proofs.Common.{arith}
 use Rattle.std.proofs.Math.Bool.{true, false, cond}
 use borrow.Author.Tests.{eqb-true}
 use Rattle.std.proofs.Math.Dec.{eqb}

@@ -1,9 +1,9 @@
 -- The same DC run with the switch `catchup` on and off, for every stamping and solving f: the two are one until the run without it says "yes" while a diode is behind. From there on the other goes on, so that it never
 -- takes fewer passes, and if it settles in as many, the two are the same. Clients cite Ahead, Pair and pairs. Assumes nothing.
 use Prim.Native.Nat.{ℕ, zero, suc, ◌+◌, ◌<◌, ◌≤◌}
-use Rattle.std.specs.Prelude.{◌≡◌, Bool, cond, ◌⊎◌, List, eqb, ltb, Float}
+use Rattle.std.specs.Prelude.{◌≡◌, Bool, cond, ◌⊎◌, eqb, ltb}
 use Rattle.std.proofs.Math.Path.{refl, ap}
-use Rattle.std.proofs.Common.{sym, subst, ◌∙◌, true≢false, ⊎_elim, eq-eqb}
+use Rattle.std.proofs.Common.{sym, subst, ◌∙◌, true≢false, ⊎_elim}
 use Rattle.std.proofs.Math.Bool.{true, false}
 use Rattle.std.proofs.Math.Logic.{inl, inr}
 use native.Mathlib.Omega.{arith}
@@ -16,13 +16,13 @@ use Rattle.steps.specs.declared.Job.{Job}
 use Rattle.steps.specs.declared.Report.{Report}
 use Rattle.steps.specs.declared.Report.TheVariants.{Yes, No, Error, Diode, Sine}
 use Rattle.steps.specs.Phases.{dc_phase, transient_phase}
-use Rattle.steps.specs.Counters.{top, next, counted, going, verdict_of}
+use Rattle.steps.specs.Counters.{top, counted, going}
 use Rattle.steps.specs.Control.{waited, failed, dc_over, dc_after}
 use Rattle.steps.specs.Laws.Control.{next_more}
 use Rattle.steps.specs.Laws.Waited.{waited_off}
 use Rattle.steps.specs.Laws.Switched.{with_catchup}
-use Rattle.machine.specs.State.{Buffers, buffers_of, State, state_of, Attempt, written_of}
-use Rattle.machine.specs.Machine.{compared, tried, takes, took, tried_by, written_by, dc_pass, pass, run_for}
+use Rattle.machine.specs.State.{buffers_of, State, state_of, Attempt}
+use Rattle.machine.specs.Machine.{compared, tried, takes, took, tried_by, dc_pass, pass, run_for}
 use Rattle.machine.specs.Laws.Budget.{pass_dc, pass_stopped}
 
 -- a DC run is in DC or over

@@ -13,7 +13,7 @@ use Rattle.steps.specs.Laws.Control.{Ends, settles, «runs-out», diverges, shri
 use Rattle.steps.specs.declared.Job.{Job}
 use Rattle.machine.specs.State.{State, Attempt}
 use Rattle.machine.specs.Machine.{pass, run_for}
-use Rattle.machine.specs.Laws.Kept.{Own, Failed, pass_keeps}
+use Rattle.machine.proofs.Laws.Kept.{Own, Failed, pass_keeps}
 
 -- how a run that has ended ended: in a solved pass, or in one that failed
 pub data Ended (transient : Bool) (v : ℕ) : Type 0 where

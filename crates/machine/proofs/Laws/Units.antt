@@ -8,14 +8,14 @@ use Rattle.std.proofs.Math.Bool.{true, false, cond}
 use native.Mathlib.Omega.{arith}
 use Rattle.steps.specs.declared.Counters.{Counters}
 use Rattle.numbers.specs.Verdicts.{diode_current, sine_refused}
-use Rattle.steps.specs.Counters.{top, next, going}
+use Rattle.steps.specs.Counters.{top, going}
 use Rattle.steps.specs.Laws.Control.{next_more, Ends, settles, «runs-out», diverges, shrinks, fills, Fails, «at-diode», «at-sine», Closed}
 use Rattle.steps.specs.declared.Job.{Job}
 use Rattle.machine.specs.State.{State, Attempt}
 use Rattle.machine.specs.Machine.{pass, run_for}
 use Rattle.machine.specs.Laws.Budget.{pass_stopped, run_stopped}
-use Rattle.machine.specs.Laws.Kept.{Own, fault_at, Failed, pass_solved, pass_failed}
-use Rattle.machine.specs.Laws.OneVerdict.{Told, pass_told}
+use Rattle.machine.proofs.Laws.Kept.{Own, fault_at, pass_solved, pass_failed}
+use Rattle.machine.proofs.Laws.OneVerdict.{Told, pass_told}
 
 -- the units of a budget of n that a run uses: one for each pass of a run that is going
 unfoldable pub used : Attempt → Job → ℕ → State → ℕ

@@ -8,7 +8,7 @@ use Rattle.std.proofs.Math.Bool.{true, false}
 use Rattle.std.proofs.Math.Logic.{inl, ⊎_elim}
 use Rattle.std.specs.Float.Ieee as Ieee
 use Rattle.std.specs.Float.Ieee.{binary64}
-use Rattle.numbers.specs.Verdicts.{settled, passes_used, diverged, diode_current, step_too_small, budget_spent, no_room, sine_refused}
+use Rattle.numbers.specs.Verdicts.{settled, passes_used, diverged, diode_current, step_too_small, no_room, sine_refused}
 use Rattle.options.specs.declared.Options.{Options}
 use Rattle.steps.specs.declared.Counters.{Counters}
 use Rattle.steps.specs.declared.Job.{Job}
@@ -17,7 +17,7 @@ use Rattle.steps.specs.declared.Report.TheVariants.{Yes, No, Error, Diode, Sine}
 use Rattle.steps.specs.Phases.{dc_phase, transient_phase}
 use Rattle.steps.specs.Counters.{counted, ended, with_dc, anew, with_step, going, verdict_of}
 use Rattle.steps.specs.Control.{dc_over, dc_after, moved, eased, shortened, step_after, row_due}
-use Rattle.machine.specs.State.{State, Attempt, Written, written_of}
+use Rattle.machine.specs.State.{State, Attempt, Written}
 use Rattle.machine.specs.Machine.{tried_by, written_by, landed, accepts, dc_pass, step_pass, pass, run_for}
 use Rattle.machine.specs.Laws.Budget.{pass_stopped}
 

@@ -13,7 +13,7 @@ use Rattle.steps.specs.Counters.{started, going, verdict_of, dc_verdict_of}
 use Rattle.steps.specs.Laws.Control.{Ends, settles, «runs-out», diverges, Fails, «at-diode», «at-sine», Closed}
 use Rattle.machine.specs.State.{Buffers, State, Attempt}
 use Rattle.machine.specs.Machine.{pass, run_for}
-use Rattle.machine.specs.Laws.Kept.{Own, fault_at, DcFails, pass_keeps_by}
+use Rattle.machine.proofs.Laws.Kept.{Own, fault_at, DcFails, pass_keeps_by}
 
 -- how DC may read: 0, 20, 21, 22, 24
 pub data DcVerdict : ℕ → Type 0 where
