@@ -1,4 +1,4 @@
--- What the judge answers. Clients cite judge_of, judge_refusal, Numbers and numbers_of, and the laws in Laws/Judge.antt that say exactly when. Definitions only.
+-- What the judge answers. Clients cite judge_of, judge_refusal, Numbers and numbers_of, and the laws in Laws/Judge.antt, here and in proofs, that say exactly when. Definitions only.
 use Rattle.std.specs.Prelude.{◌≡◌, ℕ, zero, suc, ◌+◌, ◌*◌, ◌≤◌, ◌<◌, Bool, true, false, not, cond, ◌&&◌, ◌||◌, List, ltb, eqb, length, take, Float}
 use Rattle.std.specs.Float.Ieee.{lt}
 use Rattle.std.specs.Float.Ieee.Scale.{finite}

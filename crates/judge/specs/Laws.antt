@@ -1,3 +1,3 @@
--- What holds of the judge: exactly when it accepts, names a row or refuses; and computed cases.
+-- What holds of the judge: what it refuses; and computed cases.
 pub mod Judge
 pub mod Cases

@@ -17,7 +17,7 @@ use Rattle.judge.specs.declared.Judged.{Judged}
 use Rattle.judge.specs.declared.Judged.TheVariants as judge
 use Rattle.judge.specs.Judge as the-judge
 use Rattle.judge.specs.Judge.{named, allowed, judge_refusal, judge_of}
-use Rattle.judge.specs.Laws.Judge.{refusal_is}
+use Rattle.judge.proofs.Laws.Judge.{refusal_is}
 use Rattle.single.specs.Single.{Single}
 use Rattle.single.specs.Laws.Promises.{Numbered, refused, «has-settled», «used-passes», «has-diverged», «not-Finite», «spent-budget», few}
 use Rattle.sound.specs.declared.causes.Cause.{Cause}

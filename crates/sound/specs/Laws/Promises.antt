@@ -16,7 +16,8 @@ use Rattle.exact.specs.Limbs.{limbs_of}
 use Rattle.exact.specs.Laws.Limbs.{length_limbs}
 use Rattle.judge.specs.declared.Judged.TheVariants.{Accepted}
 use Rattle.judge.specs.Judge.{judge_of}
-use Rattle.judge.specs.Laws.Judge.{Within, accepts_only}
+use Rattle.judge.specs.Laws.Judge.{Within}
+use Rattle.judge.proofs.Laws.Judge.{accepts_only}
 use Rattle.single.specs.Laws.Promises.{single_number, system_length}
 use Rattle.tally.specs.Tally.{number_in, value_in, how_many, summed, sum_of, Totals, totals_of, totals_over}
 use Rattle.tally.specs.Laws.Report.{summed_same, adds_up}
