@@ -1,7 +1,7 @@
 // The numbers of a stored answer.
-use std::io::Read;
 use super::words;
 use super::words::{Reading, word};
+use std::io::Read;
 
 // The words of an answer's head in form 1, which every head has, and those that are known here.
 const FORM_1: u8 = 14;

@@ -1,7 +1,7 @@
 // A file's first words: its name with the form's digit, and the number of jobs.
-use std::io::Read;
 use super::parts::{file_room, one_byte};
 use num::u64_at;
+use std::io::Read;
 use std::num::wrapping_sub_u64;
 
 // "SAVJOBS", "SAVANSW", "SAVSPRD" and "SAVCALL" as little-endian words; the eighth byte is the form's digit.

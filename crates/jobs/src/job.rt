@@ -1,8 +1,8 @@
 // The numbers of a job, with their names.
-use std::io::Read;
 use super::words;
 use super::words::{Reading, float, word};
 use options::Options;
+use std::io::Read;
 use std::num::wrapping_add_u64;
 
 // The words of a job's head in form 1, and those that are known here.

@@ -1,7 +1,7 @@
 // The numbers of a stored report of spreads: what the call lent, what it answered, and how much stands in each buffer.
-use std::io::Read;
 use super::words;
 use super::words::{Reading, word};
+use std::io::Read;
 
 // The words of a report's head in form 1, which every head has, and those that are known here.
 const FORM_1: u8 = 28;

@@ -1,9 +1,9 @@
 // The numbers of a file of spreads, with their names.
-use std::io::Read;
 use super::job::options_of;
 use super::words::{Reading, word};
 use super::{file, words};
 use options::Options;
+use std::io::Read;
 
 // The words of the head in form 1, and those that are known here.
 const FORM_1: u8 = 25;
