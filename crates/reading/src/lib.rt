@@ -1,7 +1,7 @@
 // Reading files: the program's arguments and the files that they name, and bytes up to a buffer's end. Nothing here allocates.
 #![tactic(auto)]
 
-ghost use Rattle.std.specs.Prelude.{◌≤◌, length};
+ghost use Rattle.std.specs.Prelude.{◌≤◌, IfSome, length};
 ghost use Rattle.reading.specs.Counts.{IsPrefixLen};
 
 use std::env::FillError;
@@ -41,11 +41,22 @@ fn read_some<R: Read>(from: &mut R, buf: &mut [u8]) -> usize
 }
 
 // Puts argument i at the start of buf and returns its length: 0 where it is longer than buf, and none where there is no such argument.
-pub fn argument<R: Env>(rt: &R, i: usize, buf: &mut [u8]) -> Option<usize> {
+pub fn argument<R: Env>(rt: &R, i: usize, buf: &mut [u8]) -> Option<usize>
+    ensures { IfSome result (λ n. n ≤ length buf.new) }
+{
     match rt.arg(i, buf) {
         Ok(n) => Some(n),
         Err(FillError::TooLong) => Some(0),
         Err(FillError::NotPresent) => None,
+    }
+}
+
+// Opens the file that argument i names; or says on standard error why it cannot. An argument that is not there, or is too long for a path, names no file.
+pub fn open_argument<R: Env + Files + Eprint>(rt: &R, i: usize) -> Option<R::File> {
+    let mut path = [0; PATH];
+    match argument(rt, i, &mut path) {
+        Some(n) => open(rt, &path[..n]),
+        None => open(rt, b""),
     }
 }
 
