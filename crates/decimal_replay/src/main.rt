@@ -1,8 +1,10 @@
 // Writes each float of the file named by the first argument in decimal, and compares the digits and their place with those stored beside it, which are Python's shortest (tools/decimal).
 // A record is 24 bytes, little-endian: the float's bits and the digits (64 each), the place and the kind (32 each). The kind is 0, or 2 for an infinity, one more with a minus, and 4 for NaN.
 // Writes how many are the same, by the number of digits, and how many differ; each that differs is named by its place in the file, from 0.
+#![tactic(auto)]
+
 use decimal::Decimal;
-use libc::STDOUT_FILENO;
+use std::io::Read;
 
 // Floats that are read at most.
 const FLOATS: u64 = 65536;
@@ -35,19 +37,13 @@ struct Tally {
     differ: u64,
 }
 
-fn main() {
-    let mut path = io::buffer();
-    let n = os::arg(1, &mut path);
-    let fd = os::open_read(&path[..n]);
-    if fd < 0 {
-        os::fail(&path[..n]);
-        return;
+fn main(rt: HostRuntime) {
+    if let Some(mut floats) = reading::open_argument(&rt, 1) {
+        report(&rt, replay(&rt, &mut floats));
     }
-    report(replay(fd));
-    libc::close(fd);
 }
 
-fn replay(fd: i32) -> Tally {
+fn replay<P: Print, R: Read>(rt: &P, from: &mut R) -> Tally {
     let mut t = Tally {
         none: 0,
         fewer: 0,
@@ -56,12 +52,12 @@ fn replay(fd: i32) -> Tally {
         differ: 0,
     };
     for place in 0..FLOATS {
-        let o = one(fd);
+        let o = one(from);
         if let Outcome::End = o {
             return t;
         }
         if let Outcome::Differs = o {
-            name(place);
+            name(rt, place);
         }
         t = counted(t, o);
     }
@@ -69,9 +65,9 @@ fn replay(fd: i32) -> Tally {
 }
 
 // Reads the next float and writes it in decimal; a file that ends is the end.
-fn one(fd: i32) -> Outcome {
+fn one<R: Read>(from: &mut R) -> Outcome {
     let mut b = [0u8; 24];
-    if io::read_full(fd, &mut b) != 24 {
+    if reading::read_full(from, &mut b) != 24 {
         return Outcome::End;
     }
     compared(decimal::decimal_of(num::f64_at(&b, 0)), stored_at(&b))
@@ -149,22 +145,18 @@ fn next(n: u64) -> u64 {
     std::num::wrapping_add_u64(n, 1)
 }
 
-fn name(place: u64) {
-    io::write_all(STDOUT_FILENO, b"differs: ");
-    io::print_decimal(STDOUT_FILENO, place);
-    io::write_all(STDOUT_FILENO, b"\n");
+fn name<P: Print>(rt: &P, place: u64) {
+    let _ = println!(rt; "differs: {place}");
 }
 
-fn report(t: Tally) {
-    line(b"up to 15 digits ", t.fewer);
-    line(b"16 digits ", t.sixteen);
-    line(b"17 digits ", t.seventeen);
-    line(b"infinite or NaN ", t.none);
-    line(b"differ ", t.differ);
+fn report<P: Print>(rt: &P, t: Tally) {
+    line(rt, "up to 15 digits ", t.fewer);
+    line(rt, "16 digits ", t.sixteen);
+    line(rt, "17 digits ", t.seventeen);
+    line(rt, "infinite or NaN ", t.none);
+    line(rt, "differ ", t.differ);
 }
 
-fn line(what: &[u8], n: u64) {
-    io::write_all(STDOUT_FILENO, what);
-    io::print_decimal(STDOUT_FILENO, n);
-    io::write_all(STDOUT_FILENO, b"\n");
+fn line<P: Print>(rt: &P, what: &str, n: u64) {
+    let _ = println!(rt; "{what}{n}");
 }

@@ -3,7 +3,6 @@ ghost use Rattle.std.specs.Prelude.{◌≡◌, length};
 
 use super::job::{Found, Numbers};
 use jobs::Head;
-use libc::STDOUT_FILENO;
 use numbers::{limit, refusal, verdict};
 use std::num::wrapping_add_u64;
 
@@ -116,101 +115,85 @@ fn limit(counts: &mut [u64], place: u64, refused: u64) {
 }
 
 // Counts a job that differs, and names it where it is among the first ten.
-pub fn found(counts: &mut [u64], k: u64, f: Found) {
+pub fn found<P: Print>(rt: &P, counts: &mut [u64], k: u64, f: Found) {
     if let Found::Nothing = f {
         return;
     }
     add(counts, DIFFER);
     if at(counts, DIFFER) <= 10 {
-        io::write_all(STDOUT_FILENO, b"job ");
-        io::print_decimal(STDOUT_FILENO, k);
-        io::write_all(STDOUT_FILENO, b" differs: ");
-        print_field(f);
-        io::write_all(STDOUT_FILENO, b"\n");
+        let _ = println!(rt; "job {k} differs: {}", field(f));
     }
 }
 
-// Writes the name of a field.
-fn print_field(f: Found) {
+// The name of a field.
+fn field(f: Found) -> &'static str {
     match f {
-        Found::Nothing => io::write_all(STDOUT_FILENO, b"nothing"),
-        Found::Refusal => io::write_all(STDOUT_FILENO, b"refusal"),
-        Found::Place => io::write_all(STDOUT_FILENO, b"place"),
-        Found::Verdict => io::write_all(STDOUT_FILENO, b"verdict"),
-        Found::DcVerdict => io::write_all(STDOUT_FILENO, b"DC verdict"),
-        Found::Passes => io::write_all(STDOUT_FILENO, b"passes"),
-        Found::Rows => io::write_all(STDOUT_FILENO, b"rows written"),
-        Found::End => io::write_all(STDOUT_FILENO, b"end"),
-        Found::Behind => io::write_all(STDOUT_FILENO, b"behind"),
-        Found::Base => io::write_all(STDOUT_FILENO, b"base matrix"),
-        Found::System => io::write_all(STDOUT_FILENO, b"system matrix"),
-        Found::Elimination => io::write_all(STDOUT_FILENO, b"elimination matrix"),
-        Found::Vector => io::write_all(STDOUT_FILENO, b"vector"),
-        Found::Memory => io::write_all(STDOUT_FILENO, b"memory"),
-        Found::RowFloats => io::write_all(STDOUT_FILENO, b"rows"),
-        Found::Unreadable => io::write_all(STDOUT_FILENO, b"cannot be read"),
-    };
+        Found::Nothing => "nothing",
+        Found::Refusal => "refusal",
+        Found::Place => "place",
+        Found::Verdict => "verdict",
+        Found::DcVerdict => "DC verdict",
+        Found::Passes => "passes",
+        Found::Rows => "rows written",
+        Found::End => "end",
+        Found::Behind => "behind",
+        Found::Base => "base matrix",
+        Found::System => "system matrix",
+        Found::Elimination => "elimination matrix",
+        Found::Vector => "vector",
+        Found::Memory => "memory",
+        Found::RowFloats => "rows",
+        Found::Unreadable => "cannot be read",
+    }
 }
 
 // Writes how many jobs differ, and then a line for each kind of outcome and each limit.
-pub fn report(counts: &[u64]) {
-    io::write_all(STDOUT_FILENO, b", ");
-    io::print_decimal(STDOUT_FILENO, at(counts, DIFFER));
-    io::write_all(STDOUT_FILENO, b" differ\nrefused:\n");
-    report_from(counts, 0, refusal::ORDER, refusal::PATTERN);
-    io::write_all(STDOUT_FILENO, b"DC:\n");
-    report_from(counts, DC, verdict::SETTLED, verdict::SETTLED);
-    report_from(counts, DC, verdict::PASSES_USED, verdict::SINE_REFUSED);
-    io::write_all(STDOUT_FILENO, b"transient:\n");
-    report_from(counts, TRANSIENT, verdict::SETTLED, verdict::SETTLED);
+pub fn report<P: Print>(rt: &P, counts: &[u64]) {
+    let _ = println!(rt; ", {} differ\nrefused:", at(counts, DIFFER));
+    report_from(rt, counts, 0, refusal::ORDER, refusal::PATTERN);
+    let _ = println!(rt; "DC:");
+    report_from(rt, counts, DC, verdict::SETTLED, verdict::SETTLED);
+    report_from(rt, counts, DC, verdict::PASSES_USED, verdict::SINE_REFUSED);
+    let _ = println!(rt; "transient:");
+    report_from(rt, counts, TRANSIENT, verdict::SETTLED, verdict::SETTLED);
     report_from(
+        rt,
         counts,
         TRANSIENT,
         verdict::PASSES_USED,
         verdict::SINE_REFUSED,
     );
-    report_limit(counts, b"48 unknowns", UNKNOWNS_48);
-    report_limit(counts, b"49 unknowns", UNKNOWNS_49);
-    report_limit(counts, b"budget 1000000", BUDGET_MOST);
-    report_limit(counts, b"budget 1000001", BUDGET_BEYOND);
-    report_limit(counts, b"256 records", RECORDS_256);
-    report_limit(counts, b"257 records", RECORDS_257);
-    report_told(at(counts, CAUGHT_UP), at(counts, BEHIND));
+    report_limit(rt, counts, "48 unknowns", UNKNOWNS_48);
+    report_limit(rt, counts, "49 unknowns", UNKNOWNS_49);
+    report_limit(rt, counts, "budget 1000000", BUDGET_MOST);
+    report_limit(rt, counts, "budget 1000001", BUDGET_BEYOND);
+    report_limit(rt, counts, "256 records", RECORDS_256);
+    report_limit(rt, counts, "257 records", RECORDS_257);
+    report_told(rt, at(counts, CAUGHT_UP), at(counts, BEHIND));
 }
 
 // Writes how many answers tell of their diodes, and what.
-fn report_told(caught_up: u64, behind: u64) {
-    io::write_all(STDOUT_FILENO, b"told of diodes: ");
-    io::print_decimal(STDOUT_FILENO, caught_up);
-    io::write_all(STDOUT_FILENO, b" with none behind, ");
-    io::print_decimal(STDOUT_FILENO, behind);
-    io::write_all(STDOUT_FILENO, b" with one\n");
+fn report_told<P: Print>(rt: &P, caught_up: u64, behind: u64) {
+    let _ = println!(rt; "told of diodes: {caught_up} with none behind, {behind} with one");
 }
 
 // Writes the counts of the outcomes from `from` to `to`.
-fn report_from(counts: &[u64], kind: u64, from: u8, to: u8) {
+fn report_from<P: Print>(rt: &P, counts: &[u64], kind: u64, from: u8, to: u8) {
     for v in from..=to {
-        report_one(at(counts, wrapping_add_u64(kind, v as u64)), v as u64);
+        report_one(rt, at(counts, wrapping_add_u64(kind, v as u64)), v as u64);
     }
 }
 
 // Writes the count of outcome v.
-fn report_one(count: u64, v: u64) {
-    io::write_all(STDOUT_FILENO, b"  ");
-    io::print_decimal(STDOUT_FILENO, count);
-    io::write_all(STDOUT_FILENO, b" with ");
-    io::print_decimal(STDOUT_FILENO, v);
-    io::write_all(STDOUT_FILENO, b"\n");
+fn report_one<P: Print>(rt: &P, count: u64, v: u64) {
+    let _ = println!(rt; "  {count} with {v}");
 }
 
 // Writes what became of the jobs at a limit.
-fn report_limit(counts: &[u64], name: &[u8], place: u64) {
-    io::write_all(STDOUT_FILENO, name);
-    io::write_all(STDOUT_FILENO, b": ");
-    io::print_decimal(STDOUT_FILENO, at(counts, place));
-    io::write_all(STDOUT_FILENO, b" run, ");
-    io::print_decimal(STDOUT_FILENO, at(counts, wrapping_add_u64(place, 1)));
-    io::write_all(STDOUT_FILENO, b" refused\n");
+fn report_limit<P: Print>(rt: &P, counts: &[u64], name: &str, place: u64) {
+    let run = at(counts, place);
+    let refused = at(counts, wrapping_add_u64(place, 1));
+    let _ = println!(rt; "{name}: {run} run, {refused} refused");
 }
 
 // One more at a place.

@@ -1,4 +1,4 @@
-// What a call carries from run to run: the pen, what was seen so far, the clock, and whether the file goes on. What was seen is added to and never taken away.
+// What a call carries from run to run: where it writes, the pen, what was seen so far, the clock, and whether the file goes on. What was seen is added to and never taken away.
 ghost use Rattle.std.specs.Prelude.{◌≡◌};
 ghost use Rattle.shell.specs.Seen.{sound_seen, fault_seen, both_seen};
 
@@ -6,9 +6,13 @@ use super::clock;
 use super::clock::Clock;
 use pen::Pen;
 use shell::Seen;
+use std::io::{Stderr, Stdout};
+use std::rt;
 
 #[derive(Clone, Copy)]
 pub struct Going {
+    pub out: Stdout,
+    pub err: Stderr,
     pub pen: Pen,
     pub seen: Seen,
     pub clock: Clock,
@@ -16,13 +20,15 @@ pub struct Going {
 }
 
 // A call that begins with this pen.
-pub fn begun(pen: Pen) -> Going
+pub fn begun<R: rt::Clock>(rt: &R, out: Stdout, err: Stderr, pen: Pen) -> Going
     ensures { result.seen ≡ sound_seen }
 {
     Going {
+        out,
+        err,
         pen,
         seen: shell::sound(),
-        clock: clock::started(),
+        clock: clock::started(rt, err),
         more: true,
     }
 }
@@ -34,6 +40,8 @@ pub fn with(g: Going, pen: Pen, seen: Seen) -> Going
     let before = g.seen;
     let clock = g.clock;
     Going {
+        out: g.out,
+        err: g.err,
         pen,
         seen: shell::both(before, seen),
         clock,
@@ -48,6 +56,8 @@ pub fn at_fault(g: Going, pen: Pen) -> Going
     let before = g.seen;
     let clock = g.clock;
     Going {
+        out: g.out,
+        err: g.err,
         pen,
         seen: shell::both(before, shell::at_fault()),
         clock,
@@ -62,6 +72,8 @@ pub fn at_file(g: Going, pen: Pen) -> Going
     let seen = g.seen;
     let clock = g.clock;
     Going {
+        out: g.out,
+        err: g.err,
         pen,
         seen,
         clock,
@@ -70,16 +82,18 @@ pub fn at_file(g: Going, pen: Pen) -> Going
 }
 
 // Job k of so many begins.
-pub fn at_job(g: Going, k: u64, jobs: u64) -> Going
+pub fn at_job<R: rt::Clock>(rt: &R, g: Going, k: u64, jobs: u64) -> Going
     ensures { result.seen ≡ g.seen }
 {
     let pen = g.pen;
     let seen = g.seen;
     let before = g.clock;
     Going {
+        out: g.out,
+        err: g.err,
         pen: pen::at_job(pen, k),
         seen,
-        clock: clock::job_begins(before, k, jobs),
+        clock: clock::job_begins(rt, g.err, before, k, jobs),
         more: g.more,
     }
 }

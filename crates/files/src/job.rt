@@ -12,12 +12,14 @@ use numbers::refusal::ROOM;
 use options::Options;
 use pen::Pen;
 use say::Switches;
+use std::io::{Read, Stdout};
+use std::rt;
 
 // Runs the file's jobs, or says why it cannot.
-pub fn run_file(g: Going, fd: i32, name: &[u8]) -> Going {
-    let f = jobs::jobs_file(fd);
+pub fn run_file<R: rt::Clock, F: Read>(rt: &R, g: Going, from: &mut F, name: &[u8]) -> Going {
+    let f = jobs::jobs_file(from);
     match f {
-        JobsFile::Whole(file) => run_jobs(g, fd, name, file),
+        JobsFile::Whole(file) => run_jobs(rt, g, from, name, file),
         JobsFile::Empty => fault(g, name, b"is empty, is a directory or cannot be read"),
         JobsFile::Other => fault(
             g,
@@ -29,34 +31,47 @@ pub fn run_file(g: Going, fd: i32, name: &[u8]) -> Going {
 }
 
 // Runs so many jobs, and sees that the file ends there: a job that is not counted would drop out unseen.
-fn run_jobs(g: Going, fd: i32, name: &[u8], file: File) -> Going {
+fn run_jobs<R: rt::Clock, F: Read>(
+    rt: &R,
+    g: Going,
+    from: &mut F,
+    name: &[u8],
+    file: File,
+) -> Going {
     if file.jobs == 0 {
         return fault(g, name, b"holds no job");
     }
-    let after = run_all(g, fd, name, file.form, file.jobs);
-    if after.more & !jobs::is_over(fd) {
+    let after = run_all(rt, g, from, name, file.form, file.jobs);
+    if after.more & !jobs::is_over(from) {
         return fault(after, name, b"goes on after its last job");
     }
     after
 }
 
 // Runs job after job; one that cannot be read ends it, whatever number of jobs the file names.
-fn run_all(g: Going, fd: i32, name: &[u8], form: u64, jobs: u64) -> Going {
+fn run_all<R: rt::Clock, F: Read>(
+    rt: &R,
+    g: Going,
+    from: &mut F,
+    name: &[u8],
+    form: u64,
+    jobs: u64,
+) -> Going {
     let mut h = g;
     for k in 0..jobs {
         if !h.more {
             return h;
         }
-        h = run_next(going::at_job(h, k, jobs), fd, name, form, k);
+        h = run_next(going::at_job(rt, h, k, jobs), from, name, form, k);
     }
     h
 }
 
 // Reads and runs job k of a file of this form.
-fn run_next(g: Going, fd: i32, name: &[u8], form: u64, k: u64) -> Going {
-    let next = jobs::next_job(fd, form);
+fn run_next<F: Read>(g: Going, from: &mut F, name: &[u8], form: u64, k: u64) -> Going {
+    let next = jobs::next_job(from, form);
     match next {
-        NextJob::Whole(h) => run_after(g, fd, name, h, k),
+        NextJob::Whole(h) => run_after(g, from, name, h, k),
         NextJob::Ends => fault_in(g, name, b"ends inside job ", k, b""),
         NextJob::Unknown => fault_in(
             g,
@@ -69,7 +84,7 @@ fn run_next(g: Going, fd: i32, name: &[u8], form: u64, k: u64) -> Going {
 }
 
 // Reads the sheet, the points and the tolerances of job k, which has these numbers, and runs it.
-fn run_after(g: Going, fd: i32, name: &[u8], h: Head, k: u64) -> Going {
+fn run_after<F: Read>(g: Going, from: &mut F, name: &[u8], h: Head, k: u64) -> Going {
     if !jobs::is_sized(h) {
         return fault_in(g, name, b"job ", k, b" is not as long as its parts");
     }
@@ -77,9 +92,9 @@ fn run_after(g: Going, fd: i32, name: &[u8], h: Head, k: u64) -> Going {
     let mut points = jobs::points_room();
     let mut tolerances = jobs::tolerance_room();
     let rest = jobs::tolerances(h);
-    let s = jobs::part(fd, &mut sheet, h.sheet);
-    let p = jobs::part(fd, &mut points, h.points);
-    let t = jobs::part(fd, &mut tolerances, rest);
+    let s = jobs::part(from, &mut sheet, h.sheet);
+    let p = jobs::part(from, &mut points, h.points);
+    let t = jobs::part(from, &mut tolerances, rest);
     if (s as u64 != h.sheet) | (p as u64 != h.points) | (t as u64 != rest) {
         return fault_in(
             g,
@@ -94,23 +109,26 @@ fn run_after(g: Going, fd: i32, name: &[u8], h: Head, k: u64) -> Going {
 
 // A fault of the file, which ends it.
 fn fault(g: Going, name: &[u8], sentence: &[u8]) -> Going {
-    clock::job_over(g.clock);
-    going::at_fault(g, say::file_fault(g.pen, name, sentence))
+    clock::job_over(g.err, g.clock);
+    going::at_fault(g, say::file_fault(g.out, g.err, g.pen, name, sentence))
 }
 
 // A fault of job k, which ends the file.
 fn fault_in(g: Going, name: &[u8], before: &[u8], k: u64, behind: &[u8]) -> Going {
-    clock::job_over(g.clock);
-    going::at_fault(g, say::job_fault(g.pen, name, before, k, behind))
+    clock::job_over(g.err, g.clock);
+    going::at_fault(
+        g,
+        say::job_fault(g.out, g.err, g.pen, name, before, k, behind),
+    )
 }
 
 // Runs the job in rooms of its own and reports.
 fn run_whole(g: Going, h: Head, sheet: &[u8], points: &[u8], tolerances: &[u8]) -> Going {
     let mut rows = rows_room();
     let run = jobs::run_job(jobs::zero_rooms(), &mut rows, h, sheet, points);
-    clock::job_over(g.clock);
+    clock::job_over(g.err, g.clock);
     let o = h.options;
-    let headed = say::heading(g.pen, h.transient, h.nodes, h.sources, switches(o));
+    let headed = say::heading(g.out, g.pen, h.transient, h.nodes, h.sources, switches(o));
     let outcome = run.outcome;
     let after = going::with(g, headed, shell::job_seen(outcome));
     report(after, run, &rows, h, sheet, tolerances)
@@ -130,10 +148,10 @@ pub fn switches(o: Options) -> Switches
 fn report(g: Going, run: Run, rows: &[f64], h: Head, sheet: &[u8], tolerances: &[u8]) -> Going {
     let outcome = run.outcome;
     match outcome {
-        Outcome::Refused(k, i) => going::with(g, say::refused(g.pen, k, i), shell::sound()),
+        Outcome::Refused(k, i) => going::with(g, say::refused(g.out, g.pen, k, i), shell::sound()),
         Outcome::Ended(e) => {
             let rooms = run.rooms;
-            let p = ended(g.pen, e, rooms, rows, h, sheet);
+            let p = ended(g.out, g.pen, e, rooms, rows, h, sheet);
             let after = going::with(g, p, shell::sound());
             judged(after, rooms, h, tolerances)
         }
@@ -141,21 +159,28 @@ fn report(g: Going, run: Run, rows: &[f64], h: Head, sheet: &[u8], tolerances: &
 }
 
 // Says how a run ended, whether a diode is behind, its vector and its rows.
-fn ended(p: Pen, e: Ending, rooms: Rooms, rows: &[f64], h: Head, sheet: &[u8]) -> Pen {
-    let q = behind(say::ended(p, e, h.transient), e.behind, rooms, h, sheet);
-    solved(q, e.rows, rooms, rows, h)
+fn ended(out: Stdout, p: Pen, e: Ending, rooms: Rooms, rows: &[f64], h: Head, sheet: &[u8]) -> Pen {
+    let q = behind(
+        out,
+        say::ended(out, p, e, h.transient),
+        e.behind,
+        rooms,
+        h,
+        sheet,
+    );
+    solved(out, q, e.rows, rooms, rows, h)
 }
 
 // Says the vector and the rows of a run.
-fn solved(p: Pen, count: u64, rooms: Rooms, rows: &[f64], h: Head) -> Pen {
+fn solved(out: Stdout, p: Pen, count: u64, rooms: Rooms, rows: &[f64], h: Head) -> Pen {
     let vector = rooms.vector;
-    let q = say::vector(p, &vector, h.nodes, h.sources);
+    let q = say::vector(out, p, &vector, h.nodes, h.sources);
     let n = std::num::wrapping_add_u64(h.nodes, h.sources);
-    say::rows(q, rows, count, n)
+    say::rows(out, q, rows, count, n)
 }
 
 // Says that a diode is behind, by its record's place and 1, with both of its voltages; 0 is none.
-fn behind(p: Pen, behind: u64, rooms: Rooms, h: Head, sheet: &[u8]) -> Pen {
+fn behind(out: Stdout, p: Pen, behind: u64, rooms: Rooms, h: Head, sheet: &[u8]) -> Pen {
     if behind == 0 {
         return p;
     }
@@ -163,7 +188,7 @@ fn behind(p: Pen, behind: u64, rooms: Rooms, h: Head, sheet: &[u8]) -> Pen {
     let vector = rooms.vector;
     let memory = rooms.memory;
     let v = volts_of(sheet, place as usize, &vector, &memory);
-    say::behind(p, place, v.across, v.limited, h.transient)
+    say::behind(out, p, place, v.across, v.limited, h.transient)
 }
 
 // Says what the judge finds, if there are tolerances.
@@ -172,7 +197,7 @@ fn judged(g: Going, rooms: Rooms, h: Head, tolerances: &[u8]) -> Going {
         return g;
     }
     let j = judgement_of(rooms, h, tolerances);
-    going::with(g, say::judged(g.pen, j), shell::judged_seen(j))
+    going::with(g, say::judged(g.out, g.pen, j), shell::judged_seen(j))
 }
 
 // What the judge says, if there is a tolerance for each unknown: a judge of fewer rows would accept what it did not look at.

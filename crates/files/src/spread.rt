@@ -10,13 +10,14 @@ use numbers::cause::BEHIND;
 use numbers::limit::{JOB_CAUSES, JOBS, RECORDS, SUM_LIMBS, UNKNOWNS};
 use pen::{Pen, word_in};
 use sound::{Reports, Soundings};
+use std::io::{Read, Stdout};
 use std::num::wrapping_add_usize;
 
 // Reads the file and runs its spreads, or says why it cannot.
-pub fn run_file(g: Going, fd: i32, name: &[u8]) -> Going {
-    let f = jobs::spreads_file(fd);
+pub fn run_file<F: Read>(g: Going, from: &mut F, name: &[u8]) -> Going {
+    let f = jobs::spreads_file(from);
     match f {
-        SpreadsFile::Whole(h) => run_after(g, fd, name, h),
+        SpreadsFile::Whole(h) => run_after(g, from, name, h),
         SpreadsFile::Empty => fault(g, name, b"is empty, is a directory or cannot be read"),
         SpreadsFile::Other => fault(
             g,
@@ -33,11 +34,11 @@ pub fn run_file(g: Going, fd: i32, name: &[u8]) -> Going {
 }
 
 // Reads the sheets and the points behind these numbers, and goes on with what follows them.
-fn run_after(g: Going, fd: i32, name: &[u8], h: Spreads) -> Going {
+fn run_after<F: Read>(g: Going, from: &mut F, name: &[u8], h: Spreads) -> Going {
     let mut sheets = sheets_room();
     let mut points = jobs::points_room();
-    let s = jobs::part(fd, &mut sheets, h.sheets);
-    let p = jobs::part(fd, &mut points, h.points);
+    let s = jobs::part(from, &mut sheets, h.sheets);
+    let p = jobs::part(from, &mut points, h.points);
     if (s as u64 != h.sheets) | (p as u64 != h.points) {
         return fault(
             g,
@@ -45,14 +46,21 @@ fn run_after(g: Going, fd: i32, name: &[u8], h: Spreads) -> Going {
             b"ends inside its sheets or its points, or they are larger than any that run",
         );
     }
-    run_parts(g, fd, name, h, &sheets[..s], &points[..p])
+    run_parts(g, from, name, h, &sheets[..s], &points[..p])
 }
 
 // Reads the tolerances, and runs the spreads if the file ends there.
-fn run_parts(g: Going, fd: i32, name: &[u8], h: Spreads, sheets: &[u8], points: &[u8]) -> Going {
+fn run_parts<F: Read>(
+    g: Going,
+    from: &mut F,
+    name: &[u8],
+    h: Spreads,
+    sheets: &[u8],
+    points: &[u8],
+) -> Going {
     let mut tolerances = jobs::tolerance_room();
     let wanted = tolerance_bytes(h.tolerances);
-    let t = jobs::part(fd, &mut tolerances, wanted);
+    let t = jobs::part(from, &mut tolerances, wanted);
     if t as u64 != wanted {
         return fault(
             g,
@@ -60,7 +68,7 @@ fn run_parts(g: Going, fd: i32, name: &[u8], h: Spreads, sheets: &[u8], points: 
             b"ends inside its tolerances, or they are larger than any that run",
         );
     }
-    if !jobs::is_over(fd) {
+    if !jobs::is_over(from) {
         return goes_on(g, name, h.tolerances);
     }
     let left = run_judged(h, sheets, points, &tolerances[..t]);
@@ -85,7 +93,7 @@ fn goes_on(g: Going, name: &[u8], tolerances: u64) -> Going {
 
 // A fault of the file.
 fn fault(g: Going, name: &[u8], sentence: &[u8]) -> Going {
-    going::at_fault(g, say::file_fault(g.pen, name, sentence))
+    going::at_fault(g, say::file_fault(g.out, g.err, g.pen, name, sentence))
 }
 
 // How a call ended, and what it left for each job and over all.
@@ -185,22 +193,35 @@ fn run_whole(h: Spreads, sheets: &[u8], points: &[u8], tolerances: &[f64]) -> Le
 // Says how the call ended and, where it ran, all that it found.
 fn report(g: Going, name: &[u8], left: Left, h: Spreads, sheets: &[u8], points: &[u8]) -> Going {
     let outcome = left.outcome;
-    let p = asked(g.pen, h);
+    let p = asked(g.out, g.pen, h);
     let seen = shell::spreads_seen(outcome, h.jobs);
     match outcome {
         Soundings::Refused(k) => {
-            let q = say::call_refused(p, k);
-            let told = say::job_fault(q, name, b"the whole call is refused by ", k as u64, b"");
+            let q = say::call_refused(g.out, p, k);
+            let told = say::job_fault(
+                g.out,
+                g.err,
+                q,
+                name,
+                b"the whole call is refused by ",
+                k as u64,
+                b"",
+            );
             going::with(g, told, seen)
         }
-        Soundings::Done(d) => going::with(g, report_done(p, left, d, h, sheets, points), seen),
+        Soundings::Done(d) => going::with(
+            g,
+            report_done(g.out, p, left, d, h, sheets, points),
+            seen,
+        ),
     }
 }
 
 // What was asked for.
-fn asked(p: Pen, h: Spreads) -> Pen {
+fn asked(out: Stdout, p: Pen, h: Spreads) -> Pen {
     let o = h.options;
     say::asked(
+        out,
         p,
         h.jobs,
         h.nodes,
@@ -212,32 +233,46 @@ fn asked(p: Pen, h: Spreads) -> Pen {
 }
 
 // Says how many jobs have each cause, which settled ones are not sound, the range of the chosen unknown, and which jobs did not settle.
-fn report_done(p: Pen, left: Left, d: Reports, h: Spreads, sheets: &[u8], points: &[u8]) -> Pen {
+fn report_done(
+    out: Stdout,
+    p: Pen,
+    left: Left,
+    d: Reports,
+    h: Spreads,
+    sheets: &[u8],
+    points: &[u8],
+) -> Pen {
     let by_job = left.by_job;
     let over_all = left.over_all;
     let settled = d.settled;
     let sound = d.sound;
-    let q = report_counts(p, over_all, h);
-    let r = say::not_sound_line(q, settled.settled, sound.settled);
-    let s = not_sound(r, by_job, h, sheets, points);
-    let t = report_values(s, over_all, d);
-    report_runs(report_unsettled(t, by_job, settled.settled, h), by_job, h)
+    let q = report_counts(out, p, over_all, h);
+    let r = say::not_sound_line(out, q, settled.settled, sound.settled);
+    let s = not_sound(out, r, by_job, h, sheets, points);
+    let t = report_values(out, s, over_all, d);
+    report_runs(
+        out,
+        report_unsettled(out, t, by_job, settled.settled, h),
+        by_job,
+        h,
+    )
 }
 
-fn report_counts(p: Pen, x: OverAll, h: Spreads) -> Pen {
+fn report_counts(out: Stdout, p: Pen, x: OverAll, h: Spreads) -> Pen {
     let counts = x.counts;
-    say::counts(p, &counts, h.jobs, h.tolerances != 0)
+    say::counts(out, p, &counts, h.jobs, h.tolerances != 0)
 }
 
 // Every settled job that is not sound.
-fn not_sound(p: Pen, x: ByJob, h: Spreads, sheets: &[u8], points: &[u8]) -> Pen {
+fn not_sound(out: Stdout, p: Pen, x: ByJob, h: Spreads, sheets: &[u8], points: &[u8]) -> Pen {
     let causes = x.causes;
     let places = x.places;
-    not_sound_jobs(p, &causes, &places, h.jobs, h, sheets, points)
+    not_sound_jobs(out, p, &causes, &places, h.jobs, h, sheets, points)
 }
 
 // The same by their causes and places, each with its sheet. The sheets are all of one length.
 fn not_sound_jobs(
+    out: Stdout,
     p: Pen,
     causes: &[u64],
     places: &[u64],
@@ -253,7 +288,7 @@ fn not_sound_jobs(
         let k = j as usize;
         let c = word_in(causes, k);
         let i = word_in(places, k);
-        q = not_sound_job(q, j, c, i, h, sheet_at(sheets, at, bytes), points);
+        q = not_sound_job(out, q, j, c, i, h, sheet_at(sheets, at, bytes), points);
         at = wrapping_add_usize(at, bytes);
     }
     q
@@ -280,6 +315,7 @@ fn sheet_at(sheets: &[u8], at: usize, bytes: usize) -> &[u8] {
 
 // Job j, if it settled and is not sound.
 fn not_sound_job(
+    out: Stdout,
     p: Pen,
     j: u64,
     cause: u64,
@@ -292,7 +328,7 @@ fn not_sound_job(
         return p;
     }
     let v = volts_in(cause, place as usize, h, sheet, points);
-    say::not_sound(p, j, cause, place, v.across, v.limited)
+    say::not_sound(out, p, j, cause, place, v.across, v.limited)
 }
 
 // Both voltages of the record at this place where its diode is the cause, and else zeros.
@@ -330,11 +366,11 @@ fn volts_again(place: usize, h: Spreads, sheet: &[u8], points: &[u8]) -> Volts {
 }
 
 // The chosen unknown over the sound jobs, and over the settled ones.
-fn report_values(p: Pen, x: OverAll, d: Reports) -> Pen {
+fn report_values(out: Stdout, p: Pen, x: OverAll, d: Reports) -> Pen {
     let settled = d.settled;
     let sound = d.sound;
     let m = settled_mean(x, settled.settled);
-    say::range(p, sound, sound_mean(x, sound.settled), settled, m)
+    say::range(out, p, sound, sound_mean(x, sound.settled), settled, m)
 }
 
 fn settled_mean(x: OverAll, n: u64) -> f64 {
@@ -350,21 +386,23 @@ fn sound_mean(x: OverAll, n: u64) -> f64 {
 }
 
 // Every run that did not settle.
-fn report_unsettled(p: Pen, x: ByJob, settled: u64, h: Spreads) -> Pen {
+fn report_unsettled(out: Stdout, p: Pen, x: ByJob, settled: u64, h: Spreads) -> Pen {
     let causes = x.causes;
     let places = x.places;
     let passes = x.passes;
-    say::unsettled(p, &causes, &places, &passes, h.jobs, settled)
+    say::unsettled(out, p, &causes, &places, &passes, h.jobs, settled)
 }
 
 // For a machine, every run.
-fn report_runs(p: Pen, x: ByJob, h: Spreads) -> Pen {
+fn report_runs(out: Stdout, p: Pen, x: ByJob, h: Spreads) -> Pen {
     let vectors = x.vectors;
     let causes = x.causes;
     let places = x.places;
     let passes = x.passes;
     let n = std::num::wrapping_add_u64(h.nodes, h.sources);
-    say::runs(p, &causes, &places, &passes, &vectors, h.jobs, n, h.unknown)
+    say::runs(
+        out, p, &causes, &places, &passes, &vectors, h.jobs, n, h.unknown,
+    )
 }
 
 // Sheets of records of 40 bytes.

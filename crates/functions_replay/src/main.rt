@@ -1,7 +1,9 @@
 // Replays the stored answers of exp, ln and sin: each record of the file that the first argument names holds a function, an input, the answer that the
 // definitions give, and the correctly rounded value, each a little-endian word. It tells how many answers differ, and how far the answers are from the correctly rounded values.
+#![tactic(auto)]
+
 use functions::Sine;
-use libc::STDOUT_FILENO;
+use std::io::Read;
 
 const EXP: u64 = 1;
 
@@ -15,16 +17,10 @@ const NAN_BITS: u64 = 0x7ff8_0000_0000_0000;
 
 const REFUSED_BITS: u64 = 0xffff_ffff_ffff_ffff;
 
-fn main() {
-    let mut path = io::buffer();
-    let n = os::arg(1, &mut path);
-    let fd = os::open_read(&path[..n]);
-    if fd < 0 {
-        os::fail(&path[..n]);
-        return;
+fn main(rt: HostRuntime) {
+    if let Some(mut answers) = reading::open_argument(&rt, 1) {
+        replay(&rt, &mut answers);
     }
-    replay(fd);
-    libc::close(fd);
 }
 
 // What was found of one function.
@@ -36,7 +32,7 @@ pub struct Tally {
 }
 
 // Reads the list, 2,048 records at a time, and reports on each function.
-fn replay(fd: i32) {
+fn replay<P: Print, R: Read>(rt: &P, from: &mut R) {
     let mut exp = Tally {
         count: 0,
         differ: 0,
@@ -46,16 +42,16 @@ fn replay(fd: i32) {
     let mut sin = exp;
     let mut turn: usize = 0;
     while turn < 16 {
-        let mut buf = io::large_buffer();
-        let n = io::read_full(fd, &mut buf);
+        let mut buf = [0; 65536];
+        let n = reading::read_full(from, &mut buf);
         exp = tallied(EXP, &buf[..n], exp);
         ln = tallied(LN, &buf[..n], ln);
         sin = tallied(SIN, &buf[..n], sin);
         turn += 1;
     }
-    report(b"exp", exp);
-    report(b"ln", ln);
-    report(b"sin", sin);
+    report(rt, "exp", exp);
+    report(rt, "ln", ln);
+    report(rt, "sin", sin);
 }
 
 // The records of one function added to a tally.
@@ -171,13 +167,9 @@ fn larger(a: u64, b: u64) -> u64 {
     if a < b { b } else { a }
 }
 
-fn report(name: &[u8], t: Tally) {
-    io::write_all(STDOUT_FILENO, name);
-    io::write_all(STDOUT_FILENO, b": ");
-    io::print_decimal(STDOUT_FILENO, t.count);
-    io::write_all(STDOUT_FILENO, b" answers, ");
-    io::print_decimal(STDOUT_FILENO, t.differ);
-    io::write_all(STDOUT_FILENO, b" differ, at most ");
-    io::print_decimal(STDOUT_FILENO, t.far);
-    io::write_all(STDOUT_FILENO, b" units from the correctly rounded value\n");
+fn report<P: Print>(rt: &P, name: &str, t: Tally) {
+    let _ = println!(rt;
+        "{name}: {} answers, {} differ, at most {} units from the correctly rounded value",
+        t.count, t.differ, t.far
+    );
 }

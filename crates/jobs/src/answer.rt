@@ -1,6 +1,7 @@
 // The numbers of a stored answer.
 use super::words;
 use super::words::{Reading, word};
+use std::io::Read;
 
 // The words of an answer's head in form 1, which every head has, and those that are known here.
 const FORM_1: u8 = 14;
@@ -36,9 +37,9 @@ pub enum NextAnswer {
 }
 
 // Reads the head of the next answer in a file of this form. A word that is not known here would not be compared, so that no head may have one, be it 0.
-pub fn next_answer(fd: i32, form: u64) -> NextAnswer {
+pub fn next_answer<R: Read>(from: &mut R, form: u64) -> NextAnswer {
     let mut head = words::head_room();
-    let r = words::read_head(fd, form, FORM_1, KNOWN, &mut head);
+    let r = words::read_head(from, form, FORM_1, KNOWN, &mut head);
     let Reading::Whole = r else {
         return NextAnswer::Unreadable;
     };

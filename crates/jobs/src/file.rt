@@ -1,6 +1,7 @@
 // A file's first words: its name with the form's digit, and the number of jobs.
 use super::parts::{file_room, one_byte};
 use num::u64_at;
+use std::io::Read;
 use std::num::wrapping_sub_u64;
 
 // "SAVJOBS", "SAVANSW", "SAVSPRD" and "SAVCALL" as little-endian words; the eighth byte is the form's digit.
@@ -34,9 +35,9 @@ pub enum JobsFile {
 }
 
 // Reads the first words of a file of jobs.
-pub fn jobs_file(fd: i32) -> JobsFile {
+pub fn jobs_file<R: Read>(from: &mut R) -> JobsFile {
     let mut b = file_room();
-    let n = io::read_full(fd, &mut b);
+    let n = reading::read_full(from, &mut b);
     let form = form_of(u64_at(&b, 0), JOBS);
     if n == 0 {
         return JobsFile::Empty;
@@ -54,24 +55,27 @@ pub fn jobs_file(fd: i32) -> JobsFile {
 }
 
 // Whether the file has no byte more. One that cannot be read may have some.
-pub fn is_over(fd: i32) -> bool {
+pub fn is_over<R: Read>(from: &mut R) -> bool {
     let mut more = one_byte();
-    libc::read(fd, &mut more) == 0
+    match from.read(&mut more) {
+        Ok(n) => n == 0,
+        Err(_) => false,
+    }
 }
 
 // The first words of a file of jobs and answers.
-pub fn answers_file(fd: i32) -> File {
-    file_named(fd, ANSWERS)
+pub fn answers_file<R: Read>(from: &mut R) -> File {
+    file_named(from, ANSWERS)
 }
 
 // The first words of a file of calls of spreads and their reports; its number of jobs is that of the calls.
-pub fn calls_file(fd: i32) -> File {
-    file_named(fd, CALLS)
+pub fn calls_file<R: Read>(from: &mut R) -> File {
+    file_named(from, CALLS)
 }
 
-fn file_named(fd: i32, name: u64) -> File {
+fn file_named<R: Read>(from: &mut R, name: u64) -> File {
     let mut b = file_room();
-    let n = io::read_full(fd, &mut b);
+    let n = reading::read_full(from, &mut b);
     let form = form_of(u64_at(&b, 0), name);
     if (n < 32) | (form == 0) {
         return File { form: 0, jobs: 0 };

@@ -2,6 +2,7 @@
 use super::words;
 use super::words::{Reading, float, word};
 use options::Options;
+use std::io::Read;
 use std::num::wrapping_add_u64;
 
 // The words of a job's head in form 1, and those that are known here.
@@ -36,9 +37,9 @@ pub enum NextJob {
 }
 
 // Reads the head of the next job in a file of this form.
-pub fn next_job(fd: i32, form: u64) -> NextJob {
+pub fn next_job<R: Read>(from: &mut R, form: u64) -> NextJob {
     let mut head = words::head_room();
-    let r = words::read_head(fd, form, FORM_1, KNOWN, &mut head);
+    let r = words::read_head(from, form, FORM_1, KNOWN, &mut head);
     match r {
         Reading::Whole => known(head_of(&head, form), word(&head, 2)),
         Reading::Ends => NextJob::Ends,

@@ -1,5 +1,7 @@
 // Files of jobs, of answers, of spreads and of calls of spreads with their reports (docs/FORMATS.md), for every program that runs them: reads their heads into values with names, reads the parts behind a head,
 // and runs a job in lent rooms. Both forms of a head are read to one layout, so that nobody behind it asks for the form. A new word of a head gets its name here.
+#![tactic(auto)]
+
 mod answer; // answer.rt: the numbers of a stored answer
 mod file; // file.rt: a file's first words, which say its form
 mod job; // job.rt: the numbers of a job

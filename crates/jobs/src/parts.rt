@@ -1,16 +1,18 @@
 // The bytes behind a head, part by part.
 ghost use Rattle.std.specs.Prelude.{◌≡◌, ◌≤◌, length, take};
-ghost use Rattle.io.specs.Counts.{IsPrefixLen};
+ghost use Rattle.reading.specs.Counts.{IsPrefixLen};
+
+use std::io::Read;
 
 // Reads n bytes, and the zero bytes after them up to a multiple of 8, and answers how many it put at the start of `buf`: fewer than n where the file ends, inside the zero bytes too, or `buf` does.
-pub fn part(fd: i32, buf: &mut [u8], n: u64) -> usize
+pub fn part<R: Read>(from: &mut R, buf: &mut [u8], n: u64) -> usize
     ensures { IsPrefixLen result buf.new }
 {
     let m = within_bytes(buf, n as usize);
-    let got = io::read_full(fd, &mut buf[..m]);
+    let got = reading::read_full(from, &mut buf[..m]);
     let mut pad = padding();
     let k = within_bytes(&pad, (8 - m % 8) % 8);
-    if io::read_full(fd, &mut pad[..k]) != k {
+    if reading::read_full(from, &mut pad[..k]) != k {
         return 0;
     }
     within_bytes(buf, got)

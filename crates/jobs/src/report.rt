@@ -1,6 +1,7 @@
 // The numbers of a stored report of spreads: what the call lent, what it answered, and how much stands in each buffer.
 use super::words;
 use super::words::{Reading, word};
+use std::io::Read;
 
 // The words of a report's head in form 1, which every head has, and those that are known here.
 const FORM_1: u8 = 28;
@@ -52,9 +53,9 @@ pub enum NextReport {
 }
 
 // Reads the head of the next report in a file of this form. As in an answer, no head may have a word that would not be compared.
-pub fn next_report(fd: i32, form: u64) -> NextReport {
+pub fn next_report<R: Read>(from: &mut R, form: u64) -> NextReport {
     let mut head = words::head_room();
-    let r = words::read_head(fd, form, FORM_1, KNOWN, &mut head);
+    let r = words::read_head(from, form, FORM_1, KNOWN, &mut head);
     let Reading::Whole = r else {
         return NextReport::Unreadable;
     };

@@ -3,6 +3,7 @@ use super::job::options_of;
 use super::words::{Reading, word};
 use super::{file, words};
 use options::Options;
+use std::io::Read;
 
 // The words of the head in form 1, and those that are known here.
 const FORM_1: u8 = 25;
@@ -32,16 +33,16 @@ pub enum SpreadsFile {
 }
 
 // Reads the head of a file of spreads.
-pub fn spreads_file(fd: i32) -> SpreadsFile {
+pub fn spreads_file<R: Read>(from: &mut R) -> SpreadsFile {
     let mut head = words::head_room();
-    if words::read_first(fd, &mut head) == 0 {
+    if words::read_first(from, &mut head) == 0 {
         return SpreadsFile::Empty;
     }
     let form = file::form_of(word(&head, 0), file::SPREADS);
     if form == 0 {
         return SpreadsFile::Other;
     }
-    let r = words::read_rest(fd, form, FORM_1, KNOWN, &mut head);
+    let r = words::read_rest(from, form, FORM_1, KNOWN, &mut head);
     match r {
         Reading::Whole => known(&head),
         Reading::Ends => SpreadsFile::Ends,

@@ -2,6 +2,8 @@
 // one place further on than in the file.
 ghost use Rattle.std.specs.Prelude.{◌≡◌, length};
 
+use std::io::Read;
+
 // The words of a head at most.
 const MOST: u64 = 64;
 
@@ -57,27 +59,27 @@ pub fn bytes(head: &[u8], form: u64) -> u64 {
 }
 
 // Reads a head of this form, that has `old` words in form 1 and of which `known` words are known here.
-pub fn read_head(fd: i32, form: u64, old: u8, known: u8, head: &mut [u8]) -> Reading
+pub fn read_head<R: Read>(from: &mut R, form: u64, old: u8, known: u8, head: &mut [u8]) -> Reading
     requires { length head.old ≡ 512 }
 {
-    if read_first(fd, head) != 8 {
+    if read_first(from, head) != 8 {
         return Reading::Ends;
     }
-    read_rest(fd, form, old, known, head)
+    read_rest(from, form, old, known, head)
 }
 
 // Reads word 0 of a head, and answers how many bytes of it there are.
-pub fn read_first(fd: i32, head: &mut [u8]) -> usize
+pub fn read_first<R: Read>(from: &mut R, head: &mut [u8]) -> usize
     requires { length head.old ≡ 512 }
 {
-    io::read_full(fd, &mut head[0..8])
+    reading::read_full(from, &mut head[0..8])
 }
 
 // Reads what follows word 0 of a head.
-pub fn read_rest(fd: i32, form: u64, old: u8, known: u8, head: &mut [u8]) -> Reading
+pub fn read_rest<R: Read>(from: &mut R, form: u64, old: u8, known: u8, head: &mut [u8]) -> Reading
     requires { length head.old ≡ 512 }
 {
-    if !read_size(fd, form, old, head) {
+    if !read_size(from, form, old, head) {
         return Reading::Ends;
     }
     let n = word(head, 1);
@@ -88,7 +90,7 @@ pub fn read_rest(fd: i32, form: u64, old: u8, known: u8, head: &mut [u8]) -> Rea
         return Reading::Unknown;
     }
     let end = 8 * (n as usize);
-    if io::read_full(fd, &mut head[16..end]) != end - 16 {
+    if reading::read_full(from, &mut head[16..end]) != end - 16 {
         return Reading::Ends;
     }
     if !zeros_from(head, known) {
@@ -98,14 +100,14 @@ pub fn read_rest(fd: i32, form: u64, old: u8, known: u8, head: &mut [u8]) -> Rea
 }
 
 // Word 1, the number of words: form 2 has it in the file.
-fn read_size(fd: i32, form: u64, old: u8, head: &mut [u8]) -> bool
+fn read_size<R: Read>(from: &mut R, form: u64, old: u8, head: &mut [u8]) -> bool
     requires { length head.old ≡ 512 }
 {
     if form == 1 {
         head[8] = old;
         return true;
     }
-    io::read_full(fd, &mut head[8..16]) == 8
+    reading::read_full(from, &mut head[8..16]) == 8
 }
 
 // Whether the words from `known` on are 0.

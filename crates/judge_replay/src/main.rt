@@ -1,10 +1,12 @@
 // Judges each system that the file named by the first argument holds, and compares the answer with the one stored beside it, which exact fractions gave (tools/judge).
 // A system is a head of 16 bytes, little-endian: rows (32 bits), how many floats of system, vector and tolerances follow (16 each), the refusal (16; 0 if none), the row (32; rows if every one holds, 0 if refused).
 // Writes how many were judged, by answer, and how many differ; each that differs is named by its place, from 0.
+#![tactic(auto)]
+
 ghost use Rattle.std.specs.Prelude.{◌≡◌, ◌+◌, ◌*◌, ◌≤◌, length};
 
 use judge::Judged;
-use libc::STDOUT_FILENO;
+use std::io::Read;
 
 // Systems, and floats of a system and of a vector, that are read at most.
 const SYSTEMS: u64 = 65536;
@@ -40,19 +42,13 @@ struct Tally {
     differ: u64,
 }
 
-fn main() {
-    let mut path = io::buffer();
-    let n = os::arg(1, &mut path);
-    let fd = os::open_read(&path[..n]);
-    if fd < 0 {
-        os::fail(&path[..n]);
-        return;
+fn main(rt: HostRuntime) {
+    if let Some(mut systems) = reading::open_argument(&rt, 1) {
+        report(&rt, replay(&rt, &mut systems));
     }
-    report(replay(fd));
-    libc::close(fd);
 }
 
-fn replay(fd: i32) -> Tally {
+fn replay<P: Print, R: Read>(rt: &P, from: &mut R) -> Tally {
     let mut t = Tally {
         accepted: 0,
         rejected: 0,
@@ -62,12 +58,12 @@ fn replay(fd: i32) -> Tally {
         differ: 0,
     };
     for place in 0..SYSTEMS {
-        let o = one(fd);
+        let o = one(from);
         if let Outcome::End = o {
             return t;
         }
         if let Outcome::Differs = o {
-            name(place);
+            name(rt, place);
         }
         t = counted(t, o);
     }
@@ -75,15 +71,15 @@ fn replay(fd: i32) -> Tally {
 }
 
 // Reads and judges the next system; a file that ends, or a system too large to be read, is the end.
-fn one(fd: i32) -> Outcome {
+fn one<R: Read>(from: &mut R) -> Outcome {
     let mut head = [0u8; 16];
-    if io::read_full(fd, &mut head) != 16 {
+    if reading::read_full(from, &mut head) != 16 {
         return Outcome::End;
     }
     let h = head_of(&head);
     let size = size_of(h);
-    let mut body = io::large_buffer();
-    if io::read_full(fd, &mut body[..size]) != size {
+    let mut body = [0; 65536];
+    if reading::read_full(from, &mut body[..size]) != size {
         return Outcome::End;
     }
     compared(judged(&body, h), h)
@@ -197,23 +193,19 @@ fn next(n: u64) -> u64 {
     std::num::wrapping_add_u64(n, 1)
 }
 
-fn name(place: u64) {
-    io::write_all(STDOUT_FILENO, b"differs: ");
-    io::print_decimal(STDOUT_FILENO, place);
-    io::write_all(STDOUT_FILENO, b"\n");
+fn name<P: Print>(rt: &P, place: u64) {
+    let _ = println!(rt; "differs: {place}");
 }
 
-fn report(t: Tally) {
-    line(b"accepted ", t.accepted);
-    line(b"rejected ", t.rejected);
-    line(b"refused by 1 ", t.rows);
-    line(b"refused by 5 ", t.short);
-    line(b"refused by 11 ", t.numbers);
-    line(b"differ ", t.differ);
+fn report<P: Print>(rt: &P, t: Tally) {
+    line(rt, "accepted ", t.accepted);
+    line(rt, "rejected ", t.rejected);
+    line(rt, "refused by 1 ", t.rows);
+    line(rt, "refused by 5 ", t.short);
+    line(rt, "refused by 11 ", t.numbers);
+    line(rt, "differ ", t.differ);
 }
 
-fn line(what: &[u8], n: u64) {
-    io::write_all(STDOUT_FILENO, what);
-    io::print_decimal(STDOUT_FILENO, n);
-    io::write_all(STDOUT_FILENO, b"\n");
+fn line<P: Print>(rt: &P, what: &str, n: u64) {
+    let _ = println!(rt; "{what}{n}");
 }

@@ -1,7 +1,9 @@
 // Takes the mean of each sum that the file named by the first argument holds, and compares its bits with those stored beside it, which exact fractions gave (tools/mean).
 // A sum is a head of 24 bytes, little-endian: the count (64 bits), the terms that follow and the limbs of a row (32 each), the mean's bits (64). A term is two floats, to be multiplied.
 // Writes how many are the same, by kind, and how many differ; each that differs is named by its place, from 0.
-use libc::STDOUT_FILENO;
+#![tactic(auto)]
+
+use std::io::Read;
 
 // Sums, and terms of one sum, that are read at most.
 const SUMS: u64 = 65536;
@@ -32,19 +34,13 @@ struct Tally {
     differ: u64,
 }
 
-fn main() {
-    let mut path = io::buffer();
-    let n = os::arg(1, &mut path);
-    let fd = os::open_read(&path[..n]);
-    if fd < 0 {
-        os::fail(&path[..n]);
-        return;
+fn main(rt: HostRuntime) {
+    if let Some(mut sums) = reading::open_argument(&rt, 1) {
+        report(&rt, replay(&rt, &mut sums));
     }
-    report(replay(fd));
-    libc::close(fd);
 }
 
-fn replay(fd: i32) -> Tally {
+fn replay<P: Print, R: Read>(rt: &P, from: &mut R) -> Tally {
     let mut t = Tally {
         zeros: 0,
         subnormals: 0,
@@ -53,12 +49,12 @@ fn replay(fd: i32) -> Tally {
         differ: 0,
     };
     for place in 0..SUMS {
-        let o = one(fd);
+        let o = one(from);
         if let Outcome::End = o {
             return t;
         }
         if let Outcome::Differs = o {
-            name(place);
+            name(rt, place);
         }
         t = counted(t, o);
     }
@@ -66,9 +62,9 @@ fn replay(fd: i32) -> Tally {
 }
 
 // Reads the next sum and takes its mean; a file that ends, or a sum too long to be read, is the end.
-fn one(fd: i32) -> Outcome {
+fn one<R: Read>(from: &mut R) -> Outcome {
     let mut head = [0u8; 24];
-    if io::read_full(fd, &mut head) != 24 {
+    if reading::read_full(from, &mut head) != 24 {
         return Outcome::End;
     }
     let h = head_of(&head);
@@ -76,8 +72,8 @@ fn one(fd: i32) -> Outcome {
         return Outcome::End;
     }
     let size = 16 * h.terms;
-    let mut body = io::large_buffer();
-    if io::read_full(fd, &mut body[..size]) != size {
+    let mut body = [0; 65536];
+    if reading::read_full(from, &mut body[..size]) != size {
         return Outcome::End;
     }
     compared(bits_of(mean_of(&body, h)), h.bits)
@@ -163,22 +159,18 @@ fn next(n: u64) -> u64 {
     std::num::wrapping_add_u64(n, 1)
 }
 
-fn name(place: u64) {
-    io::write_all(STDOUT_FILENO, b"differs: ");
-    io::print_decimal(STDOUT_FILENO, place);
-    io::write_all(STDOUT_FILENO, b"\n");
+fn name<P: Print>(rt: &P, place: u64) {
+    let _ = println!(rt; "differs: {place}");
 }
 
-fn report(t: Tally) {
-    line(b"zero ", t.zeros);
-    line(b"subnormal ", t.subnormals);
-    line(b"normal ", t.normals);
-    line(b"infinite ", t.infinities);
-    line(b"differ ", t.differ);
+fn report<P: Print>(rt: &P, t: Tally) {
+    line(rt, "zero ", t.zeros);
+    line(rt, "subnormal ", t.subnormals);
+    line(rt, "normal ", t.normals);
+    line(rt, "infinite ", t.infinities);
+    line(rt, "differ ", t.differ);
 }
 
-fn line(what: &[u8], n: u64) {
-    io::write_all(STDOUT_FILENO, what);
-    io::print_decimal(STDOUT_FILENO, n);
-    io::write_all(STDOUT_FILENO, b"\n");
+fn line<P: Print>(rt: &P, what: &str, n: u64) {
+    let _ = println!(rt; "{what}{n}");
 }

@@ -1,10 +1,13 @@
 // Replays stored answers: each entry of the data files holds what a model is asked and what it must answer, and the program says how many differ.
 // A file's entries have one length; all numbers are eight bytes, little-endian. tools/models says what stands where and makes the files.
+#![tactic(auto)]
+
 mod entry;
 
 ghost use Rattle.std.specs.Prelude.{◌≡◌, length};
 
-use libc::STDOUT_FILENO;
+use std::io::Read;
+use std::rt::Files;
 
 // How many answers were compared, and how many of them differ.
 #[derive(Drop)]
@@ -13,38 +16,29 @@ struct Tally {
     differ: u64,
 }
 
-fn main() {
-    replay(b"patterns", entry::PATTERNS);
-    replay(b"patterns_first", entry::PATTERNS_FIRST);
-    replay(b"capacitors", entry::CAPACITORS);
-    replay(b"diodes", entry::DIODES);
-    replay(b"situations", entry::SITUATIONS);
-    replay(b"sines", entry::SINES);
+fn main(rt: HostRuntime) {
+    replay(&rt, "patterns", entry::PATTERNS);
+    replay(&rt, "patterns_first", entry::PATTERNS_FIRST);
+    replay(&rt, "capacitors", entry::CAPACITORS);
+    replay(&rt, "diodes", entry::DIODES);
+    replay(&rt, "situations", entry::SITUATIONS);
+    replay(&rt, "sines", entry::SINES);
 }
 
 // Compares every answer of the file and writes its line.
-fn replay(name: &[u8], kind: u8) {
-    let fd = os::open_read(name);
-    if fd < 0 {
-        os::fail(name);
-        return;
+fn replay<R: Files + Print + Eprint>(rt: &R, name: &str, kind: u8) {
+    if let Some(mut answers) = reading::open(rt, name.as_bytes()) {
+        let Tally { seen, differ } = replay_all(&mut answers, kind);
+        let _ = println!(rt; "{name}: {seen} answers, {differ} differ");
     }
-    let t = replay_all(fd, kind);
-    libc::close(fd);
-    io::write_all(STDOUT_FILENO, name);
-    io::write_all(STDOUT_FILENO, b": ");
-    io::print_decimal(STDOUT_FILENO, t.seen);
-    io::write_all(STDOUT_FILENO, b" answers, ");
-    io::print_decimal(STDOUT_FILENO, t.differ);
-    io::write_all(STDOUT_FILENO, b" differ\n");
 }
 
 // Compares entry by entry up to the file's end. An entry cut short counts as one that differs.
-fn replay_all(fd: i32, kind: u8) -> Tally {
+fn replay_all<R: Read>(from: &mut R, kind: u8) -> Tally {
     let mut t = Tally { seen: 0, differ: 0 };
     let mut left = 1000000u64;
     while left > 0 {
-        let found = replay_one(fd, kind);
+        let found = replay_one(from, kind);
         if found == 0 {
             return t;
         }
@@ -69,10 +63,10 @@ fn counted(t: Tally, found: u8) -> Tally {
 }
 
 // Reads the next entry: 0 where the file ends, 1 where the answer is the stored one, 2 where it differs.
-fn replay_one(fd: i32, kind: u8) -> u8 {
+fn replay_one<R: Read>(from: &mut R, kind: u8) -> u8 {
     let mut buf = entry_buffer();
     let size = entry::size_of(kind);
-    let n = io::read_full(fd, &mut buf[..size]);
+    let n = reading::read_full(from, &mut buf[..size]);
     if n == 0 {
         return 0;
     }

@@ -2,7 +2,7 @@
 ghost use Rattle.std.specs.Prelude.{◌≡◌};
 ghost use Rattle.pen.specs.Pens.{new_pen, pen_of, in_form, at_file, at_job, noted_of, for_person, for_names, for_json};
 
-use libc::STDOUT_FILENO;
+use std::io::Stdout;
 
 // A sheet for a person; the names of the fields of each kind of record; a record as a line of fields apart by tabs; a record as a JSON object.
 #[derive(Clone, Copy)]
@@ -120,29 +120,29 @@ pub fn is_json(p: Pen) -> bool
 }
 
 // Writes a text.
-pub fn text(p: Pen, s: &[u8]) -> Pen {
-    noted(p, io::write_all(STDOUT_FILENO, s))
+pub fn text(out: Stdout, p: Pen, s: &[u8]) -> Pen {
+    noted(p, out.write_all(s).is_ok())
 }
 
 // Writes n in decimal.
-pub fn print(p: Pen, n: u64) -> Pen {
-    noted(p, io::print_decimal(STDOUT_FILENO, n))
+pub fn print(out: Stdout, p: Pen, n: u64) -> Pen {
+    noted(p, out.print(n).is_ok())
 }
 
 // Writes so many hexadecimal digits of n.
-pub fn print_hex(p: Pen, n: u64, width: usize) -> Pen {
-    noted(p, io::print_hex(STDOUT_FILENO, n, width))
+pub fn print_hex(out: Stdout, p: Pen, n: u64, width: usize) -> Pen {
+    noted(p, print!(out; "{n:0width$x}").is_ok())
 }
 
 // Writes a text in quotes in JSON, and bare elsewhere.
-pub fn quoted(p: Pen, s: &[u8]) -> Pen {
-    quote(text(quote(p), s))
+pub fn quoted(out: Stdout, p: Pen, s: &[u8]) -> Pen {
+    quote(out, text(out, quote(out, p), s))
 }
 
 // A quote in JSON, and nothing elsewhere.
-pub fn quote(p: Pen) -> Pen {
+pub fn quote(out: Stdout, p: Pen) -> Pen {
     if is_json(p) {
-        return text(p, b"\"");
+        return text(out, p, b"\"");
     }
     p
 }

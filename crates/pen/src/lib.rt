@@ -1,5 +1,7 @@
 // How the program writes: a pen that knows the form and whether all was written, numbers, the words of refusals, verdicts and causes, and the fields of a record in each form (docs/FORMATS.md).
 // What is decided on the way has its definitions in specs/; what only writes has none, and is compared with stored output.
+#![tactic(auto)]
+
 mod ink; // ink.rt: the pen: the form, what is written about, and whether all was written
 mod number; // number.rt: floats in decimal that reads back, and as bits
 mod record; // record.rt: a record's fields in each form

@@ -5,6 +5,7 @@ ghost use Rattle.pen.specs.Layout.{digits_in, layout_of, powered_of, power_size,
 
 use super::ink::{Pen, is_person, print, print_hex, quoted, text};
 use decimal::Decimal;
+use std::io::Stdout;
 
 // How the digits of a number stand: zeros behind them and then the point, zeros between the point and them, so many of them behind the point; or so many behind it and a power of ten. None for a place beyond all floats.
 #[derive(Drop)]
@@ -25,33 +26,33 @@ struct Parts {
 }
 
 // Writes x in decimal: with an exponent below 1e-4 and from 1e16 on. In JSON what is no number is a string.
-pub fn print_float(p: Pen, x: f64) -> Pen {
+pub fn print_float(out: Stdout, p: Pen, x: f64) -> Pen {
     let d = decimal::decimal_of(x);
     match d {
-        Decimal::Nan => quoted(p, b"NaN"),
-        Decimal::Infinite { minus } => print_infinite(p, minus),
+        Decimal::Nan => quoted(out, p, b"NaN"),
+        Decimal::Infinite { minus } => print_infinite(out, p, minus),
         Decimal::Finite {
             minus,
             digits,
             place,
-        } => print_number(print_sign(p, minus), digits, place),
+        } => print_number(out, print_sign(out, p, minus), digits, place),
     }
 }
 
 // An infinity; a machine gets the spelling that every language reads.
-fn print_infinite(p: Pen, minus: bool) -> Pen {
+fn print_infinite(out: Stdout, p: Pen, minus: bool) -> Pen {
     if is_person(p) {
-        return text(print_sign(p, minus), b"inf");
+        return text(out, print_sign(out, p, minus), b"inf");
     }
     if minus {
-        return quoted(p, b"-Infinity");
+        return quoted(out, p, b"-Infinity");
     }
-    quoted(p, b"Infinity")
+    quoted(out, p, b"Infinity")
 }
 
 // Writes the 64 bits of x as 16 hexadecimal digits; a NaN's as 7ff8000000000000.
-pub fn print_bits(p: Pen, x: f64) -> Pen {
-    print_hex(p, bits(x), 16)
+pub fn print_bits(out: Stdout, p: Pen, x: f64) -> Pen {
+    print_hex(out, p, bits(x), 16)
 }
 
 // The 64 bits of x; of every NaN the same.
@@ -64,26 +65,31 @@ fn bits(x: f64) -> u64
     f64::to_bits(x)
 }
 
-fn print_sign(p: Pen, minus: bool) -> Pen {
+fn print_sign(out: Stdout, p: Pen, minus: bool) -> Pen {
     if minus {
-        return text(p, b"-");
+        return text(out, p, b"-");
     }
     p
 }
 
 // Writes digits times 10^(place - 326).
-fn print_number(p: Pen, digits: u64, place: u64) -> Pen {
+fn print_number(out: Stdout, p: Pen, digits: u64, place: u64) -> Pen {
     let form = laid_out(count(digits), place);
     match form {
-        Layout::Whole(zeros) => text(print_zeros(print(p, digits), zeros), b".0"),
-        Layout::Below(zeros) => print(print_zeros(text(p, b"0."), zeros), digits),
-        Layout::Inside(behind) => print_parts(p, digits, behind),
+        Layout::Whole(zeros) => text(out, print_zeros(out, print(out, p, digits), zeros), b".0"),
+        Layout::Below(zeros) => print(out, print_zeros(out, text(out, p, b"0."), zeros), digits),
+        Layout::Inside(behind) => print_parts(out, p, digits, behind),
         Layout::Power {
             behind,
             minus,
             size,
         } => print(
-            print_sign(text(print_parts(p, digits, behind), b"e"), minus),
+            out,
+            print_sign(
+                out,
+                text(out, print_parts(out, p, digits, behind), b"e"),
+                minus,
+            ),
             size,
         ),
         Layout::Nothing => p,
@@ -137,16 +143,20 @@ fn power_size(end: u64) -> u64
 }
 
 // Writes digits with a point before the last k of them.
-fn print_parts(p: Pen, digits: u64, k: u64) -> Pen {
+fn print_parts(out: Stdout, p: Pen, digits: u64, k: u64) -> Pen {
     if 20 <= k {
         return p;
     }
     let parts = parted(digits, k);
-    let q = print(p, parts.before);
+    let q = print(out, p, parts.before);
     if k == 0 {
         return q;
     }
-    print(print_zeros(text(q, b"."), parts.zeros), parts.behind)
+    print(
+        out,
+        print_zeros(out, text(out, q, b"."), parts.zeros),
+        parts.behind,
+    )
 }
 
 // The digits before a point and the k behind it.
@@ -185,10 +195,10 @@ fn ten_to(k: u64) -> u64
     t
 }
 
-fn print_zeros(p: Pen, n: u64) -> Pen {
+fn print_zeros(out: Stdout, p: Pen, n: u64) -> Pen {
     let mut q = p;
     for i in 0..n {
-        q = text(q, b"0");
+        q = text(out, q, b"0");
     }
     q
 }
@@ -198,6 +208,11 @@ fn count(n: u64) -> u64
     ensures value { result ≡ digits_in n }
     ensures result_nonzero { (0 < result) × (result < 32) }
 {
-    let mut text = [0u8; 20];
-    io::decimal(n, &mut text) as u64
+    let mut k: u64 = 1;
+    for i in 0..19 {
+        if ten_to(i + 1) <= n {
+            k += 1;
+        }
+    }
+    k
 }

@@ -6,45 +6,50 @@ ghost use Rattle.pen.specs.Fields.{whole_quoted, plain_byte};
 use super::ink::{Form, Pen, is_json, is_names, print, print_hex, quote, quoted, text};
 use super::number::{print_bits, print_float};
 use super::word::{call_word, cause_word, number_word, verdict_word};
+use std::io::Stdout;
 
 // Begins a record of this kind; one always stands before it.
-pub fn begin(p: Pen, kind: &[u8]) -> Pen {
+pub fn begin(out: Stdout, p: Pen, kind: &[u8]) -> Pen {
     let form = p.form;
     match form {
-        Form::Json => text(text(text(p, b",\n{\"kind\":\""), kind), b"\""),
-        Form::Names => text(text(p, b"#"), kind),
-        Form::Tsv | Form::Person => text(p, kind),
+        Form::Json => text(
+            out,
+            text(out, text(out, p, b",\n{\"kind\":\""), kind),
+            b"\"",
+        ),
+        Form::Names => text(out, text(out, p, b"#"), kind),
+        Form::Tsv | Form::Person => text(out, p, kind),
     }
 }
 
 // Ends a record.
-pub fn end(p: Pen) -> Pen {
+pub fn end(out: Stdout, p: Pen) -> Pen {
     if is_json(p) {
-        return text(p, b"}");
+        return text(out, p, b"}");
     }
-    text(p, b"\n")
+    text(out, p, b"\n")
 }
 
 // The file, as a field.
-pub fn of_file(p: Pen) -> Pen {
-    whole(p, b"file", p.file)
+pub fn of_file(out: Stdout, p: Pen) -> Pen {
+    whole(out, p, b"file", p.file)
 }
 
 // The file and the job, as fields.
-pub fn of_job(p: Pen) -> Pen {
-    whole(of_file(p), b"job", p.job)
+pub fn of_job(out: Stdout, p: Pen) -> Pen {
+    whole(out, of_file(out, p), b"job", p.job)
 }
 
 // A whole number.
-pub fn whole(p: Pen, name: &[u8], n: u64) -> Pen {
-    let q = named(p, name, b"");
+pub fn whole(out: Stdout, p: Pen, name: &[u8], n: u64) -> Pen {
+    let q = named(out, p, name, b"");
     if is_names(q) {
         return q;
     }
     if as_string(is_json(q), n) {
-        return quote(print(quote(q), n));
+        return quote(out, print(out, quote(out, q), n));
     }
-    print(q, n)
+    print(out, q, n)
 }
 
 // Whether a whole number is written as a string: programs read a number of JSON as a float, which does not hold all numbers above 2^53.
@@ -55,111 +60,111 @@ fn as_string(json: bool, n: u64) -> bool
 }
 
 // A word that needs no escape.
-pub fn label(p: Pen, name: &[u8], value: &[u8]) -> Pen {
-    let q = named(p, name, b"");
+pub fn label(out: Stdout, p: Pen, name: &[u8], value: &[u8]) -> Pen {
+    let q = named(out, p, name, b"");
     if is_names(q) {
         return q;
     }
-    quoted(q, value)
+    quoted(out, q, value)
 }
 
 // What a refusal's or a verdict's number means.
-pub fn meaning(p: Pen, k: u8) -> Pen {
-    let q = named(p, b"meaning", b"");
+pub fn meaning(out: Stdout, p: Pen, k: u8) -> Pen {
+    let q = named(out, p, b"meaning", b"");
     if is_names(q) {
         return q;
     }
-    quote(number_word(quote(q), k))
+    quote(out, number_word(out, quote(out, q), k))
 }
 
 // What a run's verdict means.
-pub fn verdict_meaning(p: Pen, v: u8, transient: bool) -> Pen {
-    let q = named(p, b"meaning", b"");
+pub fn verdict_meaning(out: Stdout, p: Pen, v: u8, transient: bool) -> Pen {
+    let q = named(out, p, b"meaning", b"");
     if is_names(q) {
         return q;
     }
-    quote(verdict_word(quote(q), v, transient))
+    quote(out, verdict_word(out, quote(out, q), v, transient))
 }
 
 // What a refusal of a whole call means.
-pub fn call_meaning(p: Pen, k: u8) -> Pen {
-    let q = named(p, b"meaning", b"");
+pub fn call_meaning(out: Stdout, p: Pen, k: u8) -> Pen {
+    let q = named(out, p, b"meaning", b"");
     if is_names(q) {
         return q;
     }
-    quote(call_word(quote(q), k))
+    quote(out, call_word(out, quote(out, q), k))
 }
 
 // What a job's cause means.
-pub fn cause_meaning(p: Pen, k: u8) -> Pen {
-    let q = named(p, b"meaning", b"");
+pub fn cause_meaning(out: Stdout, p: Pen, k: u8) -> Pen {
+    let q = named(out, p, b"meaning", b"");
     if is_names(q) {
         return q;
     }
-    quote(cause_word(quote(q), k))
+    quote(out, cause_word(out, quote(out, q), k))
 }
 
 // A float: in decimal, and by its bits.
-pub fn float(p: Pen, name: &[u8], x: f64) -> Pen {
-    let q = named(p, name, b"");
+pub fn float(out: Stdout, p: Pen, name: &[u8], x: f64) -> Pen {
+    let q = named(out, p, name, b"");
     if is_names(q) {
-        return named(q, name, b"_bits");
+        return named(out, q, name, b"_bits");
     }
-    let r = named(print_float(q, x), name, b"_bits");
-    quote(print_bits(quote(r), x))
+    let r = named(out, print_float(out, q, x), name, b"_bits");
+    quote(out, print_bits(out, quote(out, r), x))
 }
 
 // Floats of x, n of them from place `at` on: a list of decimals, and a list of bits.
-pub fn floats(p: Pen, name: &[u8], x: &[f64], at: usize, n: u64) -> Pen {
-    let q = named(p, name, b"");
+pub fn floats(out: Stdout, p: Pen, name: &[u8], x: &[f64], at: usize, n: u64) -> Pen {
+    let q = named(out, p, name, b"");
     if is_names(q) {
-        return named(q, name, b"_bits");
+        return named(out, q, name, b"_bits");
     }
-    let r = named(items(q, false, x, at, n), name, b"_bits");
-    items(r, true, x, at, n)
+    let r = named(out, items(out, q, false, x, at, n), name, b"_bits");
+    items(out, r, true, x, at, n)
 }
 
 // A list of n floats of x from place `at` on, by their bits or in decimal.
-fn items(p: Pen, bits: bool, x: &[f64], at: usize, n: u64) -> Pen {
-    let mut q = opened(p);
+fn items(out: Stdout, p: Pen, bits: bool, x: &[f64], at: usize, n: u64) -> Pen {
+    let mut q = opened(out, p);
     let mut i = at;
     for k in 0..n {
-        q = item(apart(q, k), bits, float_in(x, i));
+        q = item(out, apart(out, q, k), bits, float_in(x, i));
         i = std::num::wrapping_add_usize(i, 1);
     }
-    closed(q)
+    closed(out, q)
 }
 
-fn item(p: Pen, bits: bool, x: f64) -> Pen {
+fn item(out: Stdout, p: Pen, bits: bool, x: f64) -> Pen {
     if bits {
-        return quote(print_bits(quote(p), x));
+        return quote(out, print_bits(out, quote(out, p), x));
     }
-    print_float(p, x)
+    print_float(out, p, x)
 }
 
-fn opened(p: Pen) -> Pen {
+fn opened(out: Stdout, p: Pen) -> Pen {
     if is_json(p) {
-        return text(p, b"[");
+        return text(out, p, b"[");
     }
     p
 }
 
-fn closed(p: Pen) -> Pen {
+fn closed(out: Stdout, p: Pen) -> Pen {
     if is_json(p) {
-        return text(p, b"]");
+        return text(out, p, b"]");
     }
     p
 }
 
 // What stands between two items of a list, before item k.
-fn apart(p: Pen, k: u64) -> Pen {
+fn apart(out: Stdout, p: Pen, k: u64) -> Pen {
     if k == 0 {
         return p;
     }
     if is_json(p) {
-        return text(p, b",");
+        return text(out, p, b",");
     }
-    text(p, b" ")
+    text(out, p, b" ")
 }
 
 // x[i], and NaN past the end.
@@ -183,27 +188,27 @@ pub fn word_in(x: &[u64], i: usize) -> u64
 }
 
 // A file's name: bytes that every reader takes as they are, and all others by their number behind a percent sign.
-pub fn file_name(p: Pen, name: &[u8]) -> Pen {
-    let q = named(p, b"name", b"");
+pub fn file_name(out: Stdout, p: Pen, name: &[u8]) -> Pen {
+    let q = named(out, p, b"name", b"");
     if is_names(q) {
         return q;
     }
-    quote(escaped(quote(q), name))
+    quote(out, escaped(out, quote(out, q), name))
 }
 
-fn escaped(p: Pen, s: &[u8]) -> Pen {
+fn escaped(out: Stdout, p: Pen, s: &[u8]) -> Pen {
     let mut q = p;
     for i in 0..s.len() {
-        q = byte(q, s[i]);
+        q = byte(out, q, s[i]);
     }
     q
 }
 
-fn byte(p: Pen, c: u8) -> Pen {
+fn byte(out: Stdout, p: Pen, c: u8) -> Pen {
     if plain(c) {
-        return text(p, &[c]);
+        return text(out, p, &[c]);
     }
-    print_hex(text(p, b"%"), c as u64, 2)
+    print_hex(out, text(out, p, b"%"), c as u64, 2)
 }
 
 // Whether a byte of a name stands for itself: a visible one that is no quote, no percent sign and no backslash.
@@ -214,11 +219,15 @@ fn plain(c: u8) -> bool
 }
 
 // What stands before a field's value: in the header its name, with an ending.
-fn named(p: Pen, name: &[u8], ending: &[u8]) -> Pen {
+fn named(out: Stdout, p: Pen, name: &[u8], ending: &[u8]) -> Pen {
     let form = p.form;
     match form {
-        Form::Json => text(text(text(text(p, b",\""), name), ending), b"\":"),
-        Form::Names => text(text(text(p, b"\t"), name), ending),
-        Form::Tsv | Form::Person => text(p, b"\t"),
+        Form::Json => text(
+            out,
+            text(out, text(out, text(out, p, b",\""), name), ending),
+            b"\":",
+        ),
+        Form::Names => text(out, text(out, text(out, p, b"\t"), name), ending),
+        Form::Tsv | Form::Person => text(out, p, b"\t"),
     }
 }

@@ -4,6 +4,7 @@ ghost use Rattle.pen.specs.Words.{is_refusal, which_of};
 
 use super::ink::{Pen, text};
 use numbers::{cause, refusal, verdict};
+use std::io::Stdout;
 
 // An unknown by its name: a node's voltage, or a source's current.
 #[derive(Drop)]
@@ -23,31 +24,32 @@ pub fn which(k: u64, nodes: u64) -> Unknown
 }
 
 // What a number means.
-pub fn number_word(p: Pen, k: u8) -> Pen {
+pub fn number_word(out: Stdout, p: Pen, k: u8) -> Pen {
     if is_refusal(k) {
-        return refusal_word(p, k);
+        return refusal_word(out, p, k);
     }
-    verdict_word(p, k, false)
+    verdict_word(out, p, k, false)
 }
 
 // What a refusal of a whole call of spreads means: 2 is said of all its sheets.
-pub fn call_word(p: Pen, k: u8) -> Pen {
+pub fn call_word(out: Stdout, p: Pen, k: u8) -> Pen {
     if k == refusal::SHEET {
         return text(
+            out,
             p,
             b"sheets not of one length, not whole records, or too many records",
         );
     }
-    number_word(p, k)
+    number_word(out, p, k)
 }
 
 // What the cause of a job means: one that has none is sound, and a cause that is no number of the run is the judge's or a diode's.
-pub fn cause_word(p: Pen, k: u8) -> Pen {
+pub fn cause_word(out: Stdout, p: Pen, k: u8) -> Pen {
     match k {
-        verdict::SETTLED => text(p, b"sound"),
-        cause::BEHIND => text(p, b"a diode is behind"),
-        cause::REJECTED => text(p, b"the judge rejects its vector"),
-        _ => number_word(p, k),
+        verdict::SETTLED => text(out, p, b"sound"),
+        cause::BEHIND => text(out, p, b"a diode is behind"),
+        cause::REJECTED => text(out, p, b"the judge rejects its vector"),
+        _ => number_word(out, p, k),
     }
 }
 
@@ -59,42 +61,43 @@ pub fn is_refusal(k: u8) -> bool
 }
 
 // What the verdict of a run means: with 0 a transient reached its end, and DC settled.
-pub fn verdict_word(p: Pen, v: u8, transient: bool) -> Pen {
+pub fn verdict_word(out: Stdout, p: Pen, v: u8, transient: bool) -> Pen {
     match v {
         verdict::SETTLED => {
             if transient {
-                return text(p, b"reached its end");
+                return text(out, p, b"reached its end");
             }
-            text(p, b"settled")
+            text(out, p, b"settled")
         }
-        verdict::PASSES_USED => text(p, b"DC passes used up"),
-        verdict::DIVERGED => text(p, b"convergence error"),
-        verdict::DIODE_CURRENT => text(p, b"diode current not finite"),
-        verdict::STEP_TOO_SMALL => text(p, b"step too small"),
-        verdict::BUDGET_SPENT => text(p, b"budget spent"),
-        verdict::NO_ROOM => text(p, b"no room for the next row"),
-        verdict::SINE_REFUSED => text(p, b"sine refused"),
-        _ => text(p, b"no such verdict"),
+        verdict::PASSES_USED => text(out, p, b"DC passes used up"),
+        verdict::DIVERGED => text(out, p, b"convergence error"),
+        verdict::DIODE_CURRENT => text(out, p, b"diode current not finite"),
+        verdict::STEP_TOO_SMALL => text(out, p, b"step too small"),
+        verdict::BUDGET_SPENT => text(out, p, b"budget spent"),
+        verdict::NO_ROOM => text(out, p, b"no room for the next row"),
+        verdict::SINE_REFUSED => text(out, p, b"sine refused"),
+        _ => text(out, p, b"no such verdict"),
     }
 }
 
-fn refusal_word(p: Pen, k: u8) -> Pen {
+fn refusal_word(out: Stdout, p: Pen, k: u8) -> Pen {
     match k {
-        refusal::ORDER => text(p, b"no node, or more than 48 unknowns"),
-        refusal::SHEET => text(p, b"sheet not whole records, or too many"),
-        refusal::POINTS => text(p, b"points not whole, or too many"),
-        refusal::COUNTS => text(p, b"a limit or the budget out of range"),
-        refusal::ROOM => text(p, b"a lent buffer too short"),
-        refusal::KIND => text(p, b"kind not 1 to 11"),
-        refusal::UNUSED => text(p, b"an unused byte not zero"),
-        refusal::NODE => text(p, b"node not below the node count"),
+        refusal::ORDER => text(out, p, b"no node, or more than 48 unknowns"),
+        refusal::SHEET => text(out, p, b"sheet not whole records, or too many"),
+        refusal::POINTS => text(out, p, b"points not whole, or too many"),
+        refusal::COUNTS => text(out, p, b"a limit or the budget out of range"),
+        refusal::ROOM => text(out, p, b"a lent buffer too short"),
+        refusal::KIND => text(out, p, b"kind not 1 to 11"),
+        refusal::UNUSED => text(out, p, b"an unused byte not zero"),
+        refusal::NODE => text(out, p, b"node not below the node count"),
         refusal::SOURCE => text(
+            out,
             p,
             b"source number not below the source count, or shared with an inductor",
         ),
-        refusal::PATTERN => text(p, b"points beyond those given"),
-        refusal::TOLERANCE => text(p, b"a number not finite, or a tolerance below zero"),
-        refusal::JOBS => text(p, b"no job, more than 256, or no such unknown"),
-        _ => text(p, b"no such refusal"),
+        refusal::PATTERN => text(out, p, b"points beyond those given"),
+        refusal::TOLERANCE => text(out, p, b"a number not finite, or a tolerance below zero"),
+        refusal::JOBS => text(out, p, b"no job, more than 256, or no such unknown"),
+        _ => text(out, p, b"no such refusal"),
     }
 }

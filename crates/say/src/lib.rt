@@ -1,5 +1,7 @@
 // What the program writes: a sheet for a person, or records for a machine, as lines of fields apart by tabs or as JSON (docs/FORMATS.md).
 // What is decided on the way, as the sum of the counts and which lines there are, has its definitions in specs/; what only writes has none, and is compared with stored output.
+#![tactic(auto)]
+
 mod call; // call.rt: a whole call, its files and its faults
 mod cause; // cause.rt: which spreads are sound, and the values over them
 mod job; // job.rt: a single job

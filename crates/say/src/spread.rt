@@ -11,12 +11,14 @@ use pen::{
     Pen, Unknown, at_job, begin, call_meaning, call_word, end, float, float_in, is_person,
     is_refusal, label, meaning, of_file, of_job, print, text, which, whole, word_in,
 };
+use std::io::Stdout;
 
 // The numbers that a job can have are those below this one.
 const NUMBERS: u8 = JOB_NUMBERS as u8;
 
 // What was asked for: with so many tolerances each vector is judged.
 pub fn asked(
+    out: Stdout,
     p: Pen,
     jobs: u64,
     nodes: u64,
@@ -26,39 +28,54 @@ pub fn asked(
     s: Switches,
 ) -> Pen {
     if is_person(p) {
-        let q = asked_line(p, jobs, nodes, sources, unknown);
-        return text(switch::of_a_call(judging(q, tolerances), s), b"\n");
+        let q = asked_line(out, p, jobs, nodes, sources, unknown);
+        return text(
+            out,
+            switch::of_a_call(out, judging(out, q, tolerances), s),
+            b"\n",
+        );
     }
-    spreads_record(p, jobs, nodes, sources, unknown, tolerances, s)
+    spreads_record(out, p, jobs, nodes, sources, unknown, tolerances, s)
 }
 
-fn asked_line(p: Pen, jobs: u64, nodes: u64, sources: u64, unknown: u64) -> Pen {
-    let q = print(text(p, b"Spreads: "), jobs);
-    let r = print(text(q, b" jobs in one call, DC operating point, "), nodes);
-    let s = print(text(r, b" nodes with ground, "), sources);
-    name(text(s, b" sources; the chosen unknown is "), unknown, nodes)
+fn asked_line(out: Stdout, p: Pen, jobs: u64, nodes: u64, sources: u64, unknown: u64) -> Pen {
+    let q = print(out, text(out, p, b"Spreads: "), jobs);
+    let r = print(
+        out,
+        text(out, q, b" jobs in one call, DC operating point, "),
+        nodes,
+    );
+    let s = print(out, text(out, r, b" nodes with ground, "), sources);
+    name(
+        out,
+        text(out, s, b" sources; the chosen unknown is "),
+        unknown,
+        nodes,
+    )
 }
 
-fn judging(p: Pen, tolerances: u64) -> Pen {
+fn judging(out: Stdout, p: Pen, tolerances: u64) -> Pen {
     if tolerances == 0 {
-        return text(p, b"; not judged");
+        return text(out, p, b"; not judged");
     }
     text(
-        print(text(p, b"; judged with "), tolerances),
+        out,
+        print(out, text(out, p, b"; judged with "), tolerances),
         b" tolerances",
     )
 }
 
 // The unknown's name: a node's voltage, or a source's current.
-fn name(p: Pen, unknown: u64, nodes: u64) -> Pen {
+fn name(out: Stdout, p: Pen, unknown: u64, nodes: u64) -> Pen {
     let u = which(unknown, nodes);
     match u {
-        Unknown::Node(i) => print(text(p, b"node "), i),
-        Unknown::Source(i) => print(text(p, b"source "), i),
+        Unknown::Node(i) => print(out, text(out, p, b"node "), i),
+        Unknown::Source(i) => print(out, text(out, p, b"source "), i),
     }
 }
 
 pub fn spreads_record(
+    out: Stdout,
     p: Pen,
     jobs: u64,
     nodes: u64,
@@ -67,62 +84,84 @@ pub fn spreads_record(
     tolerances: u64,
     s: Switches,
 ) -> Pen {
-    let q = whole(of_file(begin(p, b"spreads")), b"jobs", jobs);
+    let q = whole(out, of_file(out, begin(out, p, b"spreads")), b"jobs", jobs);
     let r = unknown_field(
-        whole(whole(q, b"nodes", nodes), b"sources", sources),
+        out,
+        whole(out, whole(out, q, b"nodes", nodes), b"sources", sources),
         unknown,
         nodes,
     );
-    end(switch::fields(whole(r, b"tolerances", tolerances), s))
+    end(
+        out,
+        switch::fields(out, whole(out, r, b"tolerances", tolerances), s),
+    )
 }
 
-fn unknown_field(p: Pen, unknown: u64, nodes: u64) -> Pen {
+fn unknown_field(out: Stdout, p: Pen, unknown: u64, nodes: u64) -> Pen {
     let u = which(unknown, nodes);
     match u {
-        Unknown::Node(i) => whole(label(p, b"of", b"node"), b"index", i),
-        Unknown::Source(i) => whole(label(p, b"of", b"source"), b"index", i),
+        Unknown::Node(i) => whole(out, label(out, p, b"of", b"node"), b"index", i),
+        Unknown::Source(i) => whole(out, label(out, p, b"of", b"source"), b"index", i),
     }
 }
 
 // A refusal of the whole call.
-pub fn call_refused(p: Pen, number: u8) -> Pen {
+pub fn call_refused(out: Stdout, p: Pen, number: u8) -> Pen {
     if is_person(p) {
-        let q = print(text(p, b"the whole call is refused by "), number as u64);
-        return text(call_word(text(q, b" ("), number), b"): no job ran\n");
+        let q = print(
+            out,
+            text(out, p, b"the whole call is refused by "),
+            number as u64,
+        );
+        return text(
+            out,
+            call_word(out, text(out, q, b" ("), number),
+            b"): no job ran\n",
+        );
     }
-    call_refused_record(p, number)
+    call_refused_record(out, p, number)
 }
 
-pub fn call_refused_record(p: Pen, number: u8) -> Pen {
-    let q = whole(of_file(begin(p, b"call_refused")), b"number", number as u64);
-    end(call_meaning(q, number))
+pub fn call_refused_record(out: Stdout, p: Pen, number: u8) -> Pen {
+    let q = whole(
+        out,
+        of_file(out, begin(out, p, b"call_refused")),
+        b"number",
+        number as u64,
+    );
+    end(out, call_meaning(out, q, number))
 }
 
 // How many jobs have each cause, of which `counts` has a word each, and that these are all the jobs given. A machine gets the jobs by their own numbers, too.
-pub fn counts(p: Pen, counts: &[u64], jobs: u64, judged: bool) -> Pen {
+pub fn counts(out: Stdout, p: Pen, counts: &[u64], jobs: u64, judged: bool) -> Pen {
     let sum = total(counts);
     if is_person(p) {
-        return total_line(cause::causes(p, counts, judged), sum, jobs);
+        return total_line(out, cause::causes(out, p, counts, judged), sum, jobs);
     }
-    let q = total_record(numbers(p, counts), sum, jobs);
+    let q = total_record(out, numbers(out, p, counts), sum, jobs);
     cause::causes(
-        cause::sound_record(q, word_in(counts, 0), jobs),
+        out,
+        cause::sound_record(out, q, word_in(counts, 0), jobs),
         counts,
         judged,
     )
 }
 
-fn total_line(p: Pen, sum: u64, jobs: u64) -> Pen {
-    let q = text(print(text(p, b"all: "), sum), b" runs of ");
-    text(print(q, jobs), b" jobs given\n")
+fn total_line(out: Stdout, p: Pen, sum: u64, jobs: u64) -> Pen {
+    let q = text(out, print(out, text(out, p, b"all: "), sum), b" runs of ");
+    text(out, print(out, q, jobs), b" jobs given\n")
 }
 
-pub fn total_record(p: Pen, sum: u64, jobs: u64) -> Pen {
-    end(whole(
-        whole(of_file(begin(p, b"total")), b"runs", sum),
-        b"jobs",
-        jobs,
-    ))
+pub fn total_record(out: Stdout, p: Pen, sum: u64, jobs: u64) -> Pen {
+    end(
+        out,
+        whole(
+            out,
+            whole(out, of_file(out, begin(out, p, b"total")), b"runs", sum),
+            b"jobs",
+            jobs,
+        ),
+    )
 }
 
 // The sum of the counts of all causes, modulo 2^64: the very sum where it is below that, as the counts of a call are (specs/Laws/Totals.antt).
@@ -137,24 +176,29 @@ fn total(counts: &[u64]) -> u64
 }
 
 // The record of each number that a job can have or that came.
-fn numbers(p: Pen, counts: &[u64]) -> Pen {
+fn numbers(out: Stdout, p: Pen, counts: &[u64]) -> Pen {
     let mut q = p;
     for k in 0..NUMBERS {
-        q = numbered(q, k, number_count(counts, k));
+        q = numbered(out, q, k, number_count(counts, k));
     }
     q
 }
 
-fn numbered(p: Pen, k: u8, count: u64) -> Pen {
+fn numbered(out: Stdout, p: Pen, k: u8, count: u64) -> Pen {
     if !shows(k, count) {
         return p;
     }
-    count_record(p, k, count)
+    count_record(out, p, k, count)
 }
 
-pub fn count_record(p: Pen, k: u8, count: u64) -> Pen {
-    let q = whole(of_file(begin(p, b"count")), b"number", k as u64);
-    end(whole(meaning(q, k), b"jobs", count))
+pub fn count_record(out: Stdout, p: Pen, k: u8, count: u64) -> Pen {
+    let q = whole(
+        out,
+        of_file(out, begin(out, p, b"count")),
+        b"number",
+        k as u64,
+    );
+    end(out, whole(out, meaning(out, q, k), b"jobs", count))
 }
 
 // How many jobs have this number of their own, out of the counts by cause: settled are the sound ones and those with a cause that is no number of the run.
@@ -182,6 +226,7 @@ fn shows(k: u8, count: u64) -> bool
 
 // Every run that did not settle, by the causes of all jobs.
 pub fn unsettled(
+    out: Stdout,
     p: Pen,
     causes: &[u64],
     places: &[u64],
@@ -189,56 +234,70 @@ pub fn unsettled(
     jobs: u64,
     settled: u64,
 ) -> Pen {
-    let mut q = unsettled_line(p, jobs, settled);
+    let mut q = unsettled_line(out, p, jobs, settled);
     for i in 0..jobs {
         let k = i as usize;
         let number = number_of(word_in(causes, k));
-        q = run(q, i, number, word_in(places, k), word_in(passes, k));
+        q = run(out, q, i, number, word_in(places, k), word_in(passes, k));
     }
     q
 }
 
 // For a person, how many follow.
-fn unsettled_line(p: Pen, jobs: u64, settled: u64) -> Pen {
+fn unsettled_line(out: Stdout, p: Pen, jobs: u64, settled: u64) -> Pen {
     if !is_person(p) {
         return p;
     }
     if jobs <= settled {
-        return text(p, b"every run settled\n");
+        return text(out, p, b"every run settled\n");
     }
-    let q = text(p, b"not settled, and in no value above: ");
-    text(print(q, jobs - settled), b"\n")
+    let q = text(out, p, b"not settled, and in no value above: ");
+    text(out, print(out, q, jobs - settled), b"\n")
 }
 
 // A run that did not settle.
-fn run(p: Pen, job: u64, number: u64, place: u64, passes: u64) -> Pen {
+fn run(out: Stdout, p: Pen, job: u64, number: u64, place: u64, passes: u64) -> Pen {
     if number == 0 {
         return p;
     }
     let k = small(number);
     let q = at_job(p, job);
     if is_person(q) {
-        return run_line(q, k, place, passes);
+        return run_line(out, q, k, place, passes);
     }
-    not_settled_record(q, k, place, passes)
+    not_settled_record(out, q, k, place, passes)
 }
 
-fn run_line(p: Pen, k: u8, place: u64, passes: u64) -> Pen {
-    let q = text(print(text(p, b"job "), p.job), b": ");
-    let r = cause::named(q, k);
+fn run_line(out: Stdout, p: Pen, k: u8, place: u64, passes: u64) -> Pen {
+    let q = text(out, print(out, text(out, p, b"job "), p.job), b": ");
+    let r = cause::named(out, q, k);
     if is_refusal(k) {
-        return text(print(text(r, b", record "), place), b"\n");
+        return text(out, print(out, text(out, r, b", record "), place), b"\n");
     }
-    text(print(text(r, b", passes "), passes), b"\n")
+    text(out, print(out, text(out, r, b", passes "), passes), b"\n")
 }
 
-pub fn not_settled_record(p: Pen, k: u8, place: u64, passes: u64) -> Pen {
-    let q = whole(of_job(begin(p, b"not_settled")), b"number", k as u64);
-    end(whole(whole(meaning(q, k), b"place", place), b"passes", passes))
+pub fn not_settled_record(out: Stdout, p: Pen, k: u8, place: u64, passes: u64) -> Pen {
+    let q = whole(
+        out,
+        of_job(out, begin(out, p, b"not_settled")),
+        b"number",
+        k as u64,
+    );
+    end(
+        out,
+        whole(
+            out,
+            whole(out, meaning(out, q, k), b"place", place),
+            b"passes",
+            passes,
+        ),
+    )
 }
 
 // For a machine every run, with the chosen unknown, which stands at this place of each vector of n floats.
 pub fn runs(
+    out: Stdout,
     p: Pen,
     causes: &[u64],
     places: &[u64],
@@ -257,6 +316,7 @@ pub fn runs(
         let k = i as usize;
         let c = word_in(causes, k);
         q = run_record(
+            out,
             at_job(q, i),
             number_of(c),
             word_in(passes, k),
@@ -269,10 +329,18 @@ pub fn runs(
     q
 }
 
-pub fn run_record(p: Pen, number: u64, passes: u64, cause: u64, place: u64, x: f64) -> Pen {
-    let q = whole(of_job(begin(p, b"run")), b"number", number);
-    let r = whole(whole(q, b"passes", passes), b"cause", cause);
-    end(float(whole(r, b"place", place), b"value", x))
+pub fn run_record(
+    out: Stdout,
+    p: Pen,
+    number: u64,
+    passes: u64,
+    cause: u64,
+    place: u64,
+    x: f64,
+) -> Pen {
+    let q = whole(out, of_job(out, begin(out, p, b"run")), b"number", number);
+    let r = whole(out, whole(out, q, b"passes", passes), b"cause", cause);
+    end(out, float(out, whole(out, r, b"place", place), b"value", x))
 }
 
 // A job's own number, as it has it by itself: its cause, and 0 where that is no number of the run.

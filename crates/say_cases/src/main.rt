@@ -1,5 +1,7 @@
 // Writes every record that the program can write, in both forms for a machine and then for a person, with every spelling of a float, a whole number and a file's name; it is compared with stored output (docs/FORMATS.md).
 // The gate sees one call of the program itself, in the form for a person: this is what it has of the others.
+#![tactic(auto)]
+
 ghost use Rattle.std.specs.Prelude.{◌≡◌, length};
 
 use engine::Ending;
@@ -7,66 +9,84 @@ use judge::Judged;
 use num::float_of;
 use pen::Pen;
 use say::Switches;
+use std::io::Stdout;
 use tally::Report;
 
-fn main() {
-    all(pen::pen_for(true, false));
-    all(pen::pen_for(false, true));
-    all(pen::pen_for(false, false));
+fn main(rt: HostRuntime) {
+    let out = rt.stdout();
+    all(out, pen::pen_for(true, false));
+    all(out, pen::pen_for(false, true));
+    all(out, pen::pen_for(false, false));
 }
 
 // All that can be written with this pen.
-fn all(p: Pen) {
-    let q = jobs(say::file_begun(say::call_begun(p), b"front end.jobs", false, true));
-    let r = spreads(say::file_begun(pen::at_file(q, 1), b"spreads.jobs", true, true));
+fn all(out: Stdout, p: Pen) {
+    let q = jobs(
+        out,
+        say::file_begun(out, say::call_begun(out, p), b"front end.jobs", false, true),
+    );
+    let r = spreads(
+        out,
+        say::file_begun(out, pen::at_file(q, 1), b"spreads.jobs", true, true),
+    );
     let s = pen::at_file(r, 18446744073709551615);
-    let t = say::file_begun(s, b"\t !\"#%&[\\]~\xc3\xa9", true, true);
-    say::call_ended(say::faulted(t), 2);
+    let t = say::file_begun(out, s, b"\t !\"#%&[\\]~\xc3\xa9", true, true);
+    say::call_ended(out, say::faulted(out, t), 2);
 }
 
 // A job that is refused, one of DC, and transients with rows and without.
-fn jobs(p: Pen) -> Pen {
+fn jobs(out: Stdout, p: Pen) -> Pen {
     let q = say::refused(
-        say::heading(p, false, 9007199254740992, 9007199254740993, switches(0, 0)),
+        out,
+        say::heading(
+            out,
+            p,
+            false,
+            9007199254740992,
+            9007199254740993,
+            switches(0, 0),
+        ),
         8,
         41,
     );
-    ended_alone(row_after_row(vector(q)))
+    ended_alone(out, row_after_row(out, vector(out, q)))
 }
 
-fn vector(p: Pen) -> Pen {
+fn vector(out: Stdout, p: Pen) -> Pen {
     let x = floats();
-    let q = say::heading(pen::at_job(p, 1), false, 2, 14, switches(1, 0));
+    let q = say::heading(out, pen::at_job(p, 1), false, 2, 14, switches(1, 0));
     let r = say::behind(
-        say::ended(q, ending(21, 21, 0.0), false),
+        out,
+        say::ended(out, q, ending(21, 21, 0.0), false),
         2,
         5.0,
         0.625,
         false,
     );
-    say::judged(say::vector(r, &x, 2, 14), Judged::Rejected(3))
+    say::judged(out, say::vector(out, r, &x, 2, 14), Judged::Rejected(3))
 }
 
-fn row_after_row(p: Pen) -> Pen {
+fn row_after_row(out: Stdout, p: Pen) -> Pen {
     let x = floats();
     let both = switches(18446744073709551615, 9223372036854775808);
-    let q = say::heading(pen::at_job(p, 2), true, 2, 1, both);
+    let q = say::heading(out, pen::at_job(p, 2), true, 2, 1, both);
     let r = say::behind(
-        say::ended(q, ending(0, 20, 2.5e-6), true),
+        out,
+        say::ended(out, q, ending(0, 20, 2.5e-6), true),
         2,
         0.0 / 0.0,
         -0.0,
         true,
     );
-    say::judged(say::rows(r, &x, 4, 3), Judged::Refused(11))
+    say::judged(out, say::rows(out, r, &x, 4, 3), Judged::Refused(11))
 }
 
 // Rows of a time alone, and one that is not there.
-fn ended_alone(p: Pen) -> Pen {
+fn ended_alone(out: Stdout, p: Pen) -> Pen {
     let x = floats();
-    let q = say::heading(pen::at_job(p, 3), true, 2, 1, switches(0, 1));
-    let r = say::rows(say::ended(q, ending(26, 0, 1.0), true), &x, 17, 0);
-    say::judged(r, Judged::Accepted)
+    let q = say::heading(out, pen::at_job(p, 3), true, 2, 1, switches(0, 1));
+    let r = say::rows(out, say::ended(out, q, ending(26, 0, 1.0), true), &x, 17, 0);
+    say::judged(out, r, Judged::Accepted)
 }
 
 // The options that are on or off, by their words.
@@ -89,46 +109,61 @@ fn ending(verdict: u8, dc: u8, end: f64) -> Ending {
 }
 
 // Calls that are refused; one of which no run settled, one of which some did and none is sound, and one with sound runs.
-fn spreads(p: Pen) -> Pen {
-    let q = say::call_refused(say::asked(p, 0, 12, 4, 11, 0, switches(0, 0)), 2);
+fn spreads(out: Stdout, p: Pen) -> Pen {
+    let q = say::call_refused(out, say::asked(out, p, 0, 12, 4, 11, 0, switches(0, 0)), 2);
     let s = switches(1, 18446744073709551615);
-    let r = say::call_refused(say::asked(q, 257, 12, 4, 15, 16, s), 13);
-    some_sound(none_sound(none_settled(r)))
+    let r = say::call_refused(out, say::asked(out, q, 257, 12, 4, 15, 16, s), 13);
+    some_sound(out, none_sound(out, none_settled(out, r)))
 }
 
-fn none_settled(p: Pen) -> Pen {
+fn none_settled(out: Stdout, p: Pen) -> Pen {
     let n = causes();
-    let q = say::asked(p, 8, 12, 4, 11, 0, switches(9223372036854775808, 0));
-    let r = say::range(say::not_sound_line(q, 0, 0), report(0), 0.0, report(0), 0.0);
-    say::unsettled(r, &n, &n, &n, 8, 0)
+    let q = say::asked(out, p, 8, 12, 4, 11, 0, switches(9223372036854775808, 0));
+    let r = say::range(
+        out,
+        say::not_sound_line(out, q, 0, 0),
+        report(0),
+        0.0,
+        report(0),
+        0.0,
+    );
+    say::unsettled(out, r, &n, &n, &n, 8, 0)
 }
 
 // Each cause of a settled run, told of one that has it.
-fn none_sound(p: Pen) -> Pen {
-    let asked = say::asked(p, 3, 12, 4, 11, 16, switches(0, 1));
-    let q = say::not_sound_line(asked, 3, 0);
-    let r = say::not_sound(q, 0, 27, 2, 4.99998, 0.625);
-    let s = say::not_sound(say::not_sound(r, 1, 28, 3, 1.0, 1.0), 2, 11, 0, 1.0, 1.0);
-    say::range(s, report(0), 0.0, report(3), 0.5)
+fn none_sound(out: Stdout, p: Pen) -> Pen {
+    let asked = say::asked(out, p, 3, 12, 4, 11, 16, switches(0, 1));
+    let q = say::not_sound_line(out, asked, 3, 0);
+    let r = say::not_sound(out, q, 0, 27, 2, 4.99998, 0.625);
+    let s = say::not_sound(
+        out,
+        say::not_sound(out, r, 1, 28, 3, 1.0, 1.0),
+        2,
+        11,
+        0,
+        1.0,
+        1.0,
+    );
+    say::range(out, s, report(0), 0.0, report(3), 0.5)
 }
 
-fn some_sound(p: Pen) -> Pen {
-    let q = say::not_sound_line(counted(p), 2, 2);
-    listed(say::range(q, report(2), 0.5, report(3), 0.25))
+fn some_sound(out: Stdout, p: Pen) -> Pen {
+    let q = say::not_sound_line(out, counted(out, p), 2, 2);
+    listed(out, say::range(out, q, report(2), 0.5, report(3), 0.25))
 }
 
 // With numbers that no DC run has, and with counts that are not there.
-fn counted(p: Pen) -> Pen {
+fn counted(out: Stdout, p: Pen) -> Pen {
     let c = counts();
-    let q = say::counts(p, &c, 18446744073709551615, false);
-    say::counts(q, &[2], 2, true)
+    let q = say::counts(out, p, &c, 18446744073709551615, false);
+    say::counts(out, q, &[2], 2, true)
 }
 
-fn listed(p: Pen) -> Pen {
+fn listed(out: Stdout, p: Pen) -> Pen {
     let n = causes();
     let x = floats();
-    let q = say::unsettled(p, &[0], &[0], &[0], 2, 2);
-    say::runs(q, &n, &n, &n, &x, 9, 3, 1)
+    let q = say::unsettled(out, p, &[0], &[0], &[0], 2, 2);
+    say::runs(out, q, &n, &n, &n, &x, 9, 3, 1)
 }
 
 // A report over so many runs.

@@ -1,8 +1,9 @@
 // Replays stored sheets, sound and damaged, and compares the refusal and its place with the stored answers, which another program worked out
 // from the rules (tools/sheet/make_jobs.py, with the file's format). Writes each sheet that differs, and the counts.
+#![tactic(auto)]
+
 ghost use Rattle.std.specs.Prelude.{◌≡◌, ◌≤◌, length};
 
-use libc::STDOUT_FILENO;
 use sheet::Limits;
 
 // A refusal and its place, or 0 and 0.
@@ -19,18 +20,12 @@ struct Replayed {
     bytes: usize,
 }
 
-fn main() {
-    let mut path = io::buffer();
-    let n = os::arg(1, &mut path);
-    let fd = os::open_read(&path[..n]);
-    if fd < 0 {
-        os::fail(&path[..n]);
-        return;
+fn main(rt: HostRuntime) {
+    if let Some(mut jobs) = reading::open_argument(&rt, 1) {
+        let mut file = file_buffer();
+        let size = reading::read_full(&mut jobs, &mut file);
+        replay(&rt, &file[..size]);
     }
-    let mut file = file_buffer();
-    let size = io::read_full(fd, &mut file);
-    libc::close(fd);
-    replay(&file[..size]);
 }
 
 // Room for the file of jobs.
@@ -41,7 +36,7 @@ fn file_buffer() -> [u8; 524288]
 }
 
 // Replays the jobs of a file.
-fn replay(file: &[u8]) {
+fn replay<P: Print>(rt: &P, file: &[u8]) {
     if file.len() < 4 {
         return;
     }
@@ -49,20 +44,17 @@ fn replay(file: &[u8]) {
     let mut wrong: u64 = 0;
     let mut at = 4;
     for k in 0..jobs {
-        let one = replay_one(&file[at..], k);
+        let one = replay_one(rt, &file[at..], k);
         if !one.agrees {
             wrong = std::num::wrapping_add_u64(wrong, 1);
         }
         at += one.bytes;
     }
-    io::print_decimal(STDOUT_FILENO, jobs as u64);
-    io::write_all(STDOUT_FILENO, b" sheets, ");
-    io::print_decimal(STDOUT_FILENO, wrong);
-    io::write_all(STDOUT_FILENO, b" differ\n");
+    let _ = println!(rt; "{jobs} sheets, {wrong} differ");
 }
 
 // Replays the job that the bytes begin with, number k, and writes it where it differs.
-fn replay_one(job: &[u8], k: u32) -> Replayed
+fn replay_one<P: Print>(rt: &P, job: &[u8], k: u32) -> Replayed
     ensures { result.bytes ≤ length job.now }
 {
     let bytes = num::u32_at(job, 0) as usize;
@@ -79,7 +71,7 @@ fn replay_one(job: &[u8], k: u32) -> Replayed
     };
     let agrees = (got.number == wanted.number) & (got.place == wanted.place);
     if !agrees {
-        report(k, got, wanted);
+        report(rt, k, got, wanted);
     }
     Replayed {
         agrees,
@@ -115,18 +107,9 @@ fn answer_of(sheet: &[u8], job: &[u8]) -> Answer {
 }
 
 // Writes a sheet that differs.
-fn report(k: u32, got: Answer, wanted: Answer) {
-    io::write_all(STDOUT_FILENO, b"sheet ");
-    io::print_decimal(STDOUT_FILENO, k as u64);
-    io::write_all(STDOUT_FILENO, b": ");
-    print_answer(got);
-    io::write_all(STDOUT_FILENO, b", wanted ");
-    print_answer(wanted);
-    io::write_all(STDOUT_FILENO, b"\n");
-}
-
-fn print_answer(a: Answer) {
-    io::print_decimal(STDOUT_FILENO, a.number);
-    io::write_all(STDOUT_FILENO, b" at ");
-    io::print_decimal(STDOUT_FILENO, a.place);
+fn report<P: Print>(rt: &P, k: u32, got: Answer, wanted: Answer) {
+    let _ = println!(rt;
+        "sheet {k}: {} at {}, wanted {} at {}",
+        got.number, got.place, wanted.number, wanted.place
+    );
 }

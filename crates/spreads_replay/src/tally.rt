@@ -2,7 +2,6 @@
 ghost use Rattle.std.specs.Prelude.{◌≡◌, length};
 
 use super::call::Found;
-use libc::STDOUT_FILENO;
 use numbers::limit::JOB_NUMBERS;
 use numbers::refusal;
 use std::num::wrapping_add_u64;
@@ -47,23 +46,24 @@ fn jobs_ended(counts: &mut [u64], by_number: &[u64]) {
 }
 
 // Counts a call that differs, and names it where it is among the first ten.
-pub fn found(counts: &mut [u64], k: u64, f: Found) {
+pub fn found<P: Print>(rt: &P, counts: &mut [u64], k: u64, f: Found) {
     if let Found::Nothing = f {
         return;
     }
     add(counts, DIFFER, 1);
     if at(counts, DIFFER) <= 10 {
-        text(b"call ");
-        io::print_decimal(STDOUT_FILENO, k);
-        text(b" differs: ");
-        print_field(f);
-        text(b"\n");
+        text(rt, b"call ");
+        number(rt, k);
+        text(rt, b" differs: ");
+        print_field(rt, f);
+        text(rt, b"\n");
     }
 }
 
 // Writes the name of a field.
-fn print_field(f: Found) {
+fn print_field<P: Print>(rt: &P, f: Found) {
     print_item(
+        rt,
         b"nothing,refusal,settled,smallest,largest,smallest at,largest at,base matrix,system matrix,elimination matrix,memory,vectors,numbers,places,passes,counts,plus,minus,cannot be read",
         place_of(f),
     );
@@ -95,15 +95,15 @@ fn place_of(f: Found) -> u8 {
 }
 
 // Writes item k of a list whose items are apart by commas.
-fn print_item(list: &[u8], k: u8) {
+fn print_item<P: Print>(rt: &P, list: &[u8], k: u8) {
     let mut before = k;
     for i in 0..list.len() {
-        before = item_byte(list[i], before);
+        before = item_byte(rt, list[i], before);
     }
 }
 
 // Writes a byte of a list if no item is left before its own. Answers how many are left then: after the item's end more than there can be.
-fn item_byte(b: u8, before: u8) -> u8 {
+fn item_byte<P: Print>(rt: &P, b: u8, before: u8) -> u8 {
     if b == b',' {
         if before == 0 {
             return 255;
@@ -111,41 +111,41 @@ fn item_byte(b: u8, before: u8) -> u8 {
         return before - 1;
     }
     if before == 0 {
-        text(&[b; 1]);
+        text(rt, &[b; 1]);
     }
     before
 }
 
 // Writes how many calls differ, and then a line for each way to end.
-pub fn report(counts: &[u64]) {
-    text(b", ");
-    io::print_decimal(STDOUT_FILENO, at(counts, DIFFER));
-    text(b" differ\ncalls refused:\n");
-    report_from(counts, 0, refusal::ORDER, refusal::ROOM);
-    report_from(counts, 0, refusal::JOBS, refusal::JOBS);
-    text(b"calls that ran: ");
-    io::print_decimal(STDOUT_FILENO, at(counts, RAN));
-    text(b"\ntheir jobs:\n");
-    report_from(counts, JOBS, 0, NUMBERS - 1);
+pub fn report<P: Print>(rt: &P, counts: &[u64]) {
+    text(rt, b", ");
+    number(rt, at(counts, DIFFER));
+    text(rt, b" differ\ncalls refused:\n");
+    report_from(rt, counts, 0, refusal::ORDER, refusal::ROOM);
+    report_from(rt, counts, 0, refusal::JOBS, refusal::JOBS);
+    text(rt, b"calls that ran: ");
+    number(rt, at(counts, RAN));
+    text(rt, b"\ntheir jobs:\n");
+    report_from(rt, counts, JOBS, 0, NUMBERS - 1);
 }
 
 // Writes the counts of the numbers from `from` to `to`, those of which there are any.
-fn report_from(counts: &[u64], kind: u64, from: u8, to: u8) {
+fn report_from<P: Print>(rt: &P, counts: &[u64], kind: u64, from: u8, to: u8) {
     for v in from..=to {
-        report_one(at(counts, wrapping_add_u64(kind, v as u64)), v as u64);
+        report_one(rt, at(counts, wrapping_add_u64(kind, v as u64)), v as u64);
     }
 }
 
 // Writes the count of number v, if there is any.
-fn report_one(count: u64, v: u64) {
+fn report_one<P: Print>(rt: &P, count: u64, v: u64) {
     if count == 0 {
         return;
     }
-    text(b"  ");
-    io::print_decimal(STDOUT_FILENO, count);
-    text(b" with ");
-    io::print_decimal(STDOUT_FILENO, v);
-    text(b"\n");
+    text(rt, b"  ");
+    number(rt, count);
+    text(rt, b" with ");
+    number(rt, v);
+    text(rt, b"\n");
 }
 
 // So many more at a place.
@@ -165,6 +165,10 @@ fn at(counts: &[u64], place: u64) -> u64 {
     0
 }
 
-fn text(s: &[u8]) {
-    io::write_all(STDOUT_FILENO, s);
+fn text<P: Print>(rt: &P, s: &[u8]) {
+    let _ = rt.write_all(s);
+}
+
+fn number<P: Print>(rt: &P, n: u64) {
+    let _ = rt.print(n);
 }

@@ -5,7 +5,7 @@ use Rattle.std.proofs.Math.Path.{sym}
 use Rattle.std.proofs.Common.{subst, ⊎_elim, mul-le-mul_right, mul-lt-mul_of_pos_right, lt_of_lt_of_le, le_trans, div-add-mod', mod-lt, arith, le-leb, lit<, lit≤, pow-add}
 use Rattle.std.proofs.Math.Nat.{pow-le-pow_right, one-le-pow}
 use Rattle.std.proofs.lemmas.Bool.{lt-leb}
-use Rattle.io.specs.Digits.{IsDigitCount}
+use Rattle.pen.specs.Digits.{IsDigitCount}
 use Rattle.loops.specs.Laws.Loop.{le_or_lt}
 use Rattle.pen.specs.Layout.{reached, digits_in, parts_of}
 

@@ -1,0 +1,5 @@
+use Rattle.functions.specs.Laws.Fields.{no_nan_of}
+use Rattle.jobs.proofs.lent.same.Goals as goal
+
+pub float_to_bits-result : goal.float_to_bits-result
+float_to_bits-result c = no_nan_of c.args.x c.if-x.false
