@@ -4,8 +4,8 @@ use Rattle.models.proofs.sine.evaluate.Goals as goal
 
 pub returns-in-Value : goal.returns-in-Value
 unfolding sine_at level_of
-returns-in-Value c = rw (← c.sin-s.ensures, c.s-1.given.1)
+returns-in-Value c = rw (← c.sin-s.ensures, c.in-Value.is)
 
 pub returns-in-Refused : goal.returns-in-Refused
 unfolding sine_at level_of
-returns-in-Refused c = rw (← c.sin-s.ensures, c.enum_told-1.given.1)
+returns-in-Refused c = rw (← c.sin-s.ensures, c.in-Refused.is)
