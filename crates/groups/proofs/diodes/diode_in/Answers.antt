@@ -5,8 +5,8 @@ use Rattle.groups.proofs.diodes.diode_in.Goals as goal
 
 pub returns-in_default : goal.returns-in_default
 unfolding diode_in
-returns-in_default c = rw (← c.record_in.ensures, c.enum_told-in_default-1.given.1)
+returns-in_default c = rw (← c.record_in.ensures, c.in_default.is)
 
 pub returns : goal.returns
 unfolding diode_in
-returns c = rw (← c.record_in.ensures, c.enum_told-1.given.1)
+returns c = rw (← c.record_in.ensures, c.in-Good.is)

@@ -9,6 +9,7 @@ use Rattle.groups.specs.Listed.{Places, places_of, diodes_among, fronted, diode_
 use Rattle.groups.specs.Laws.Listed.{walk_found, walk_passed}
 use borrow.Author.Rules.{rules}
 use Rattle.groups.proofs.diodes.list_diodes.Goals as goal
+use Rattle.groups.proofs.diodes.list_diodes.Goals.{then-diode_in, else-diode_in}
 
 pub loop-i-init : goal.loop-i-init
 unfolding diodes_among
@@ -20,24 +21,24 @@ loop-i-preserved c =
     let sheet = c.args.sheet.now in
     let test = c.diode_in.ensures in
     let list = c.args.places.now in
-    ⊎_elim
-    (λ u. (
+    elim c.if-diode_in.branch [
+    then-diode_in w ↦ (
       omega arith,
-      rw u.2 (omega arith),
+      rw w.found-is (omega arith),
       l.invariant.2,
       l.invariant.3,
-      rw u.1 (simp length-set l.invariant.4),
-      rw (u.2, u.1) (walk_found sheet list l.i l.found l.places l.invariant.5 (sym test ∙ u.0.true) (omega arith)),
-    ))
-    (λ u. (
+      rw w.places-is (simp length-set l.invariant.4),
+      rw (w.found-is, w.places-is) (walk_found sheet list l.i l.found l.places l.invariant.5 (sym test ∙ w.if-diode_in.true) (omega arith)),
+    )
+    | else-diode_in w ↦ (
       omega arith,
-      rw u.2 (omega arith),
+      rw w.found-is (omega arith),
       l.invariant.2,
       l.invariant.3,
-      rw u.1 l.invariant.4,
-      rw (u.2, u.1) (walk_passed sheet list l.i l.found l.places l.invariant.5 (sym test ∙ u.0.left)),
-    ))
-    c.if-diode_in.branch
+      rw w.places-is l.invariant.4,
+      rw (w.found-is, w.places-is) (walk_passed sheet list l.i l.found l.places l.invariant.5 (sym test ∙ w.if-diode_in.false)),
+    )
+    ]
 
 pub returns : goal.returns
 unfolding diode_places

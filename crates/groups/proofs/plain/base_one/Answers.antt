@@ -5,25 +5,25 @@ use mathlib.Core.List.{[], ◌∷◌}
 use Rattle.stamps.specs.Write.{stamped}
 use Rattle.groups.specs.Plain.{base_writes}
 use Rattle.groups.specs.Laws.Quiet.{quiet_base}
-use Rattle.groups.proofs.Tags.{other_kind}
+use Rattle.groups.proofs.Tags.{not_base}
 use Rattle.groups.proofs.plain.base_one.Goals as goal
 
 pub returns-in_default : goal.returns-in_default
 unfolding stamped
-returns-in_default c = rw c.enum_told-1.given.1
+returns-in_default c = rw c.in_default.is
 
 pub returns-in-R : goal.returns-in-R
 unfolding base_writes
-returns-in-R c = rw (c.d-1.given.1, c.e-1.given.1) c.stamp_resistor.ensures
+returns-in-R c = rw (c.in-Good.is, c.in-R.is) c.stamp_resistor.ensures
 
 pub returns-in-I : goal.returns-in-I
 unfolding base_writes
-returns-in-I c = rw (c.d-1.given.1, c.e-in-I-1.given.1) c.stamp_current.ensures
+returns-in-I c = rw (c.in-Good.is, c.in-I.is) c.stamp_current.ensures
 
 pub returns-in-V : goal.returns-in-V
 unfolding base_writes
-returns-in-V c = rw (c.d-1.given.1, c.e-in-V-1.given.1, ← c.row_of-s.ensures) c.stamp_voltage.ensures
+returns-in-V c = rw (c.in-Good.is, c.in-V.is, ← c.row_of-s.ensures) c.stamp_voltage.ensures
 
 pub returns-in_default-e : goal.returns-in_default-e
 unfolding stamped
-returns-in_default-e c = rw (c.d-1.given.1, quiet_base _ _ _ (other_kind 1 3 (3 ∷ 4 ∷ 5 ∷ 6 ∷ 7 ∷ 8 ∷ 9 ∷ 10 ∷ []) _ c.in_default-e.keys4 refl))
+returns-in_default-e c = rw (c.in-Good.is, quiet_base _ _ _ (not_base _ c.in_default-e.not-R c.in_default-e.not-I c.in_default-e.not-V))

@@ -5,21 +5,21 @@ use mathlib.Core.List.{[], ◌∷◌}
 use Rattle.stamps.specs.Write.{stamped}
 use Rattle.groups.specs.Plain.{dependent_writes}
 use Rattle.groups.specs.Laws.Quiet.{quiet_dependent}
-use Rattle.groups.proofs.Tags.{other_kind}
+use Rattle.groups.proofs.Tags.{not_dependent}
 use Rattle.groups.proofs.plain.dependent_one.Goals as goal
 
 pub returns-in_default : goal.returns-in_default
 unfolding stamped
-returns-in_default c = rw c.enum_told-1.given.1
+returns-in_default c = rw c.in_default.is
 
 pub returns-in-Vcvs : goal.returns-in-Vcvs
 unfolding dependent_writes
-returns-in-Vcvs c = rw (c.d-1.given.1, c.e-1.given.1, ← c.row_of.ensures) c.vcvs.ensures
+returns-in-Vcvs c = rw (c.in-Good.is, c.in-Vcvs.is, ← c.row_of.ensures) c.vcvs.ensures
 
 pub returns-in-Vccs : goal.returns-in-Vccs
 unfolding dependent_writes
-returns-in-Vccs c = rw (c.d-1.given.1, c.e-in-Vccs-1.given.1) c.vccs.ensures
+returns-in-Vccs c = rw (c.in-Good.is, c.in-Vccs.is) c.vccs.ensures
 
 pub returns-in_default-e : goal.returns-in_default-e
 unfolding stamped
-returns-in_default-e c = rw (c.d-1.given.1, quiet_dependent _ _ _ (other_kind 9 10 (0 ∷ 1 ∷ 2 ∷ 3 ∷ 4 ∷ 5 ∷ 6 ∷ 7 ∷ 10 ∷ []) _ c.in_default-e.keys3 refl))
+returns-in_default-e c = rw (c.in-Good.is, quiet_dependent _ _ _ (not_dependent _ c.in_default-e.not-Vcvs c.in_default-e.not-Vccs))

@@ -5,23 +5,23 @@ use mathlib.Core.List.{[], ◌∷◌}
 use Rattle.stamps.specs.Write.{stamped}
 use Rattle.groups.specs.Storage.{storage_writes, unstored}
 use Rattle.groups.specs.Laws.Quiet.{silent_storage}
-use Rattle.groups.proofs.Tags.{skipped_kind}
+use Rattle.groups.proofs.Tags.{not_stored}
 use Rattle.groups.proofs.storage.storage_one.Goals as goal
 
 pub returns-in_default : goal.returns-in_default
 unfolding stamped
-returns-in_default c = rw c.enum_told-1.given.1
+returns-in_default c = rw c.in_default.is
 
 pub returns-in-C : goal.returns-in-C
 unfolding storage_writes
-returns-in-C c = rw (c.d-1.given.1, c.e-1.given.1) c.capacitor.ensures
+returns-in-C c = rw (c.in-Good.is, c.in-C.is) c.capacitor.ensures
 
 pub returns-in-L : goal.returns-in-L
 unfolding storage_writes
-returns-in-L c = rw (c.d-1.given.1, c.e-in-L-1.given.1) (rw c.number_at.ensures at c.inductor.ensures)
+returns-in-L c = rw (c.in-Good.is, c.in-L.is) (rw c.number_at.ensures at c.inductor.ensures)
 
 pub returns-in_default-e : goal.returns-in_default-e
 unfolding stamped
 returns-in_default-e c =
     let a = c.args in
-    rw (c.d-1.given.1, silent_storage a.p a.x.now a.memory.now a.i _ (skipped_kind (unstored a.p.transient) (0 ∷ 1 ∷ 2 ∷ 3 ∷ 4 ∷ 5 ∷ 6 ∷ 8 ∷ 9 ∷ []) _ c.in_default-e.keys3 refl))
+    rw (c.in-Good.is, silent_storage a.p a.x.now a.memory.now a.i _ (not_stored a.p.transient _ c.in_default-e.not-C c.in_default-e.not-L))

@@ -1,9 +1,0 @@
--- `groups::sources::voltage` meets its contract: by the two answers of a sine. Assumes nothing.
-use borrow.Author.Rules.{rules}
-use Rattle.groups.proofs.sources.voltage.Goals as goal
-
-pub returns-in_default : goal.returns-in_default
-returns-in_default c = rw c.enum_told-1.given.1
-
-pub returns : goal.returns
-returns c = rw (c.l-1.given.1, ← c.row_of-s.ensures, c.stamp_voltage.ensures)
