@@ -13,4 +13,4 @@ empty (x ∷ w) h = absurd (omega (arith, h))
 pub returns : goal.returns
 returns c =
     let x = c.analysis in
-    (rw (empty x.new.1.1.1.1.1.1.1.1.1.0 x.auto.1.1.1.1.1.1.1.1.1.0) at x.ensures.0, x.ensures.1)
+    record { all = rw (empty x.new.rows x.auto.rows) at x.ensures.all; scratch = x.ensures.scratch }

@@ -6,8 +6,8 @@ use Rattle.single.proofs.marked.Goals as goal
 
 pub returns-in-Refused : goal.returns-in-Refused
 unfolding mark_of
-returns-in-Refused c = ap mark_of (sym c.r-1.given.1)
+returns-in-Refused c = ap mark_of (sym c.in-Refused.is)
 
 pub returns-in-Ended : goal.returns-in-Ended
 unfolding mark_of
-returns-in-Ended c = ap mark_of (sym c.r-in-Ended-1.given.1)
+returns-in-Ended c = ap mark_of (sym c.in-Ended.is)

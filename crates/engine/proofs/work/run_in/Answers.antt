@@ -23,7 +23,7 @@ pub slice_bounds-work-end : goal.slice_bounds-work-end
 slice_bounds-work-end c = sym (part _ _ c.requires.small c.cells-a.ensures.0)
 
 pub work-c-requires : goal.work-c-requires
-work-c-requires c = (c.requires, part _ _ c.requires.small c.cells-a.ensures.0)
+work-c-requires c = record { fit = c.requires; accepted_len = part _ _ c.requires.small c.cells-a.ensures.0 }
 
 pub returns : goal.returns
 returns c =
