@@ -1,5 +1,4 @@
 -- `groups::complete` meets its contract: one group after the other. Assumes nothing.
-use borrow.Author.Rules.{rules}
 use Rattle.groups.specs.Stamping.{completed}
 use Rattle.groups.proofs.complete.Goals as goal
 

@@ -1,5 +1,4 @@
 -- `groups::stamp_base` meets its contract: zeros first, then the group. Assumes nothing.
-use borrow.Author.Rules.{rules}
 use Rattle.groups.specs.Stamping.{base_of}
 use Rattle.groups.proofs.stamp_base.Goals as goal
 

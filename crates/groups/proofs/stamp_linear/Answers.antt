@@ -1,5 +1,4 @@
 -- `groups::stamp_linear` meets its contract: by the verdict of the independent sources. Assumes nothing.
-use borrow.Author.Rules.{rules}
 use Rattle.groups.proofs.Passed.{ended, went_on}
 use Rattle.groups.proofs.stamp_linear.Goals as goal
 

@@ -1,6 +1,6 @@
 -- Laws of a pass's stamping: no length changes, its verdicts are 0, 22 and 26, and the memory of a record that is no diode stays. Assumes nothing.
 -- Clients cite Fine, fine and memory_stays; a further law of stamping on_record_lem, diodes_fine and diodes_leave.
-use Rattle.std.specs.Prelude.{ℕ, ◌≡◌, ◌⊎◌, Bool, cond, List, length, Float}
+use Rattle.std.specs.Prelude.{ℕ, ◌≡◌, ◌⊎◌, Bool, List, length, Float}
 use Rattle.std.proofs.Math.Path.{refl}
 use Rattle.std.proofs.Common.{sym, ap, ◌∙◌, inr, ⊎_elim, eqb-true, length-set, get_or-set_other}
 use Rattle.std.proofs.Math.Logic.{inl}

@@ -1,5 +1,4 @@
 -- `groups::diodes::as_diode` meets its contract: by the verdict so far. Assumes nothing.
-use borrow.Author.Rules.{rules}
 use borrow.Author.Tests.{eq-eqb, ne_eqb}
 use Rattle.groups.specs.Listed.{as_diode}
 use Rattle.groups.proofs.diodes.as_diode.Goals as goal

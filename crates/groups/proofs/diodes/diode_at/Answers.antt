@@ -1,5 +1,4 @@
 -- `groups::diodes::diode_at` meets its contract: a diode may be read as one, and any other record writes nothing. Assumes nothing.
-use borrow.Author.Rules.{rules}
 use mathlib.Core.Path.{sym, ◌∙◌}
 use Rattle.groups.specs.Diodes.{stamped_of}
 use Rattle.groups.specs.Laws.Listed.{read_diode, no_diode}

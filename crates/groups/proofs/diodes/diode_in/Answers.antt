@@ -1,5 +1,4 @@
 -- `groups::diodes::diode_in` meets its contract: by what the record decodes to. Assumes nothing.
-use borrow.Author.Rules.{rules}
 use Rattle.groups.specs.Listed.{diode_in}
 use Rattle.groups.proofs.diodes.diode_in.Goals as goal
 

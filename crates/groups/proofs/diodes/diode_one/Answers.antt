@@ -1,7 +1,5 @@
 -- `groups::diodes::diode_one` meets its contract: a diode is one model; any other kind writes nothing. Assumes nothing.
-use borrow.Author.Rules.{rules}
-use mathlib.Core.Path.{refl, sym}
-use mathlib.Core.List.{[], ◌∷◌}
+use mathlib.Core.Path.{sym}
 use Rattle.models.specs.Diode.{linearized}
 use Rattle.groups.specs.Diodes.{biased}
 use Rattle.groups.specs.Laws.Quiet.{quiet_biased}

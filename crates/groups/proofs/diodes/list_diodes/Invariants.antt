@@ -1,12 +1,7 @@
-use Prim.Native.Nat.{◌-◌, ◌≤◌}
-use mathlib.Core.Path.{◌≡◌, refl, sym, ◌∙◌}
-use mathlib.Core.Logic.{⊎_elim}
-use native.Mathlib.Nat.{le_antisymm}
-use native.Mathlib.Omega.{arith}
-use lib.ListN.{length, length-set}
-use Rattle.groups.specs.Listed.{Places, places_of, diodes_among, fronted, diode_places}
-use Rattle.groups.specs.Laws.Listed.{walk_found, walk_passed}
-use borrow.Author.Rules.{rules}
+use Prim.Native.Nat.{◌≤◌}
+use mathlib.Core.Path.{◌≡◌}
+use lib.ListN.{length}
+use Rattle.groups.specs.Listed.{Places, places_of, diodes_among, fronted}
 use Rattle.groups.proofs.diodes.list_diodes.Given as goal
 
 abbrev pub invariant-loop-i : goal.invariant-loop-i

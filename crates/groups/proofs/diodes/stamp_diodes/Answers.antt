@@ -1,5 +1,4 @@
 -- `groups::diodes::stamp_diodes` meets its contract: the listed records, and then the rest. Assumes nothing.
-use borrow.Author.Rules.{rules}
 use Prim.Native.Nat.{◌-◌}
 use mathlib.Core.Path.{ap, ◌∙◌}
 use Rattle.loops.specs.Loop.{turns}

@@ -1,12 +1,7 @@
 -- `groups::diodes::stamp_listed` meets its contract: the invariant says what the listed records passed have made of the matrix, the memory and the verdict. Assumes nothing.
 use borrow.Author.Rules.{rules}
-use mathlib.Core.Path.{◌≡◌, refl, ◌∙◌}
-use Prim.Native.Nat.{◌-◌, ◌≤◌}
-use lib.ListN.{length}
-use Rattle.loops.specs.Loop.{turns}
+use mathlib.Core.Path.{refl, ◌∙◌}
 use Rattle.loops.specs.Laws.Loop.{more, done}
-use Rattle.groups.specs.Diodes.{Stamped, stamped_of}
-use Rattle.groups.specs.Listed.{listed_at}
 use Rattle.groups.proofs.diodes.stamp_listed.Goals as goal
 
 pub loop-j-init : goal.loop-j-init

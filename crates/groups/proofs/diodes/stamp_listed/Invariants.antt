@@ -1,9 +1,7 @@
-use borrow.Author.Rules.{rules}
-use mathlib.Core.Path.{◌≡◌, refl, ◌∙◌}
-use Prim.Native.Nat.{◌-◌, ◌≤◌}
+use mathlib.Core.Path.{◌≡◌}
+use Prim.Native.Nat.{◌≤◌}
 use lib.ListN.{length}
 use Rattle.loops.specs.Loop.{turns}
-use Rattle.loops.specs.Laws.Loop.{more, done}
 use Rattle.groups.specs.Diodes.{Stamped, stamped_of}
 use Rattle.groups.specs.Listed.{listed_at}
 use Rattle.groups.proofs.diodes.stamp_listed.Given as goal

@@ -2,12 +2,10 @@
 use borrow.Author.Rules.{rules}
 use mathlib.Core.Path.{◌≡◌, refl, sym, ap, ◌∙◌}
 use native.Mathlib.Omega.{arith}
-use Prim.Native.Nat.{ℕ, ◌+◌, ◌-◌, ◌≤◌}
-use lib.ListN.{length}
-use Rattle.loops.specs.Loop.{turns}
+use Prim.Native.Nat.{ℕ, ◌+◌, ◌-◌}
 use Rattle.loops.specs.Laws.Loop.{more}
 use Rattle.sheet.specs.Check.{records_of}
-use Rattle.groups.specs.Diodes.{Stamped, stamped_of, biased_at}
+use Rattle.groups.specs.Diodes.{stamped_of, biased_at}
 use Rattle.groups.specs.Listed.{rest_at}
 use Rattle.groups.proofs.diodes.stamp_rest.Goals as goal
 

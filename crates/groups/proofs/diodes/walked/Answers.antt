@@ -1,5 +1,4 @@
 -- `groups::diodes::walked` meets its contract: by its two tests. Assumes nothing.
-use mathlib.Core.Logic.{⊎_elim}
 use native.Mathlib.Omega.{arith}
 use Rattle.groups.proofs.diodes.walked.Goals as goal
 use Rattle.groups.proofs.diodes.walked.Goals.{then-a-lt-RECORDS, else-a-lt-RECORDS}

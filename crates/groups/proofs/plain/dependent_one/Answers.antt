@@ -1,7 +1,4 @@
 -- `groups::plain::dependent_one` meets its contract: each arm is one stamp; the arm of the other kinds writes nothing. Assumes nothing.
-use borrow.Author.Rules.{rules}
-use mathlib.Core.Path.{refl}
-use mathlib.Core.List.{[], ◌∷◌}
 use Rattle.stamps.specs.Write.{stamped}
 use Rattle.groups.specs.Plain.{dependent_writes}
 use Rattle.groups.specs.Laws.Quiet.{quiet_dependent}

@@ -1,10 +1,8 @@
 -- `groups::plain::stamp_base` meets its contract: the records passed have written their lists. Assumes nothing.
-use borrow.Author.Rules.{rules}
-use Prim.Native.Nat.{◌-◌}
 use Rattle.numbers.specs.Kinds.{resistor, voltage}
 use Rattle.groups.specs.Plain.{base_writes, based_on}
 use Rattle.groups.specs.Laws.Quiet.{quiet_base}
-use Rattle.groups.proofs.Walk.{Walking, at_first, one_more_in, at_last}
+use Rattle.groups.proofs.Walk.{at_first, one_more_in, at_last}
 use Rattle.groups.proofs.plain.stamp_base.Goals as goal
 
 pub loop-i-init : goal.loop-i-init

@@ -1,10 +1,8 @@
 -- `groups::plain::stamp_dependent` meets its contract: the records passed have written their lists. Assumes nothing.
-use borrow.Author.Rules.{rules}
-use Prim.Native.Nat.{◌-◌}
 use Rattle.numbers.specs.Kinds.{vcvs, vccs}
 use Rattle.groups.specs.Plain.{dependent_writes, dependent_of}
 use Rattle.groups.specs.Laws.Quiet.{quiet_dependent}
-use Rattle.groups.proofs.Walk.{Walking, at_first, one_more_in, at_last}
+use Rattle.groups.proofs.Walk.{at_first, one_more_in, at_last}
 use Rattle.groups.proofs.plain.stamp_dependent.Goals as goal
 
 pub loop-i-init : goal.loop-i-init

@@ -1,5 +1,4 @@
 -- `groups::records::across` meets its contract: a difference of two reads. Assumes nothing.
-use borrow.Author.Rules.{rules}
 use Rattle.groups.proofs.records.across.Goals as goal
 
 pub returns : goal.returns

@@ -1,5 +1,4 @@
 -- `groups::records::number_at` meets its contract: past the end 0.0 / 0.0 is what the definition reads. Assumes nothing.
-use borrow.Author.Rules.{rules}
 use mathlib.Core.Path.{sym, ◌∙◌}
 use lib.Ieee.{nan}
 use Rattle.groups.proofs.Numbers.{no_number, past}

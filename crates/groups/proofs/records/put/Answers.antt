@@ -1,5 +1,4 @@
 -- `groups::records::put` meets its contract: past the end there is nothing to set. Assumes nothing.
-use borrow.Author.Rules.{rules}
 use mathlib.Core.Path.{sym}
 use lib.Seq.{set_out}
 use Rattle.groups.proofs.records.put.Goals as goal

@@ -1,5 +1,4 @@
 -- `groups::records::record_in` meets its contract: by the two tests on the kind byte. Assumes nothing.
-use borrow.Author.Rules.{rules}
 use borrow.Author.Tests.{lt-ltb, le-ltb}
 use Rattle.groups.specs.Records.{record_in}
 use Rattle.groups.proofs.records.record_in.Goals as goal

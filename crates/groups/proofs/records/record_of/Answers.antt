@@ -1,5 +1,4 @@
 -- `groups::records::record_of` meets its contract: by the test on the kind byte. Assumes nothing.
-use borrow.Author.Rules.{rules}
 use mathlib.Core.Path.{sym, ◌∙◌}
 use Rattle.sheet.specs.Laws.Record.{decode_own}
 use Rattle.groups.specs.Records.{record_in}

@@ -1,5 +1,4 @@
 -- `groups::sources::pattern` meets its contract: the level is the one that the option's rule gives at the pass's time. Assumes nothing.
-use borrow.Author.Rules.{rules}
 use Rattle.groups.proofs.sources.pattern.Goals as goal
 
 pub returns : goal.returns

@@ -1,5 +1,4 @@
 -- `groups::sources::source_at` meets its contract: a record of another kind would write nothing, and after a verdict none does. Assumes nothing.
-use borrow.Author.Rules.{rules}
 use mathlib.Core.Path.{◌∙◌}
 use borrow.Author.Tests.{eq-eqb, ne_eqb}
 use Rattle.groups.specs.Sources.{driven_at, driven, driven_of}

@@ -1,7 +1,4 @@
 -- `groups::sources::source_one` meets its contract: each arm is one source; the arm of the other kinds writes nothing. Assumes nothing.
-use borrow.Author.Rules.{rules}
-use mathlib.Core.Path.{refl}
-use mathlib.Core.List.{[], ◌∷◌}
 use Rattle.groups.specs.Sources.{driven}
 use Rattle.groups.specs.Laws.Quiet.{quiet_driven}
 use Rattle.groups.proofs.Tags.{not_source}

@@ -1,5 +1,4 @@
 -- `groups::sources::source_time` meets its contract: by the one test. Assumes nothing.
-use borrow.Author.Rules.{rules}
 use Rattle.groups.proofs.sources.source_time.Goals as goal
 
 pub returns-then-w : goal.returns-then-w

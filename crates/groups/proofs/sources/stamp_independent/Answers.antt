@@ -1,11 +1,8 @@
 -- `groups::sources::stamp_independent` meets its contract: the invariant says what the records passed have made of the matrix and the verdict. Assumes nothing.
 use borrow.Author.Rules.{rules}
-use mathlib.Core.Path.{◌≡◌, refl, ◌∙◌}
-use Prim.Native.Nat.{◌-◌, ◌≤◌}
-use lib.ListN.{length}
-use Rattle.loops.specs.Loop.{turns}
+use mathlib.Core.Path.{refl, ◌∙◌}
 use Rattle.loops.specs.Laws.Loop.{more, done}
-use Rattle.groups.specs.Sources.{Driven, driven_of, driven_at, independent_of}
+use Rattle.groups.specs.Sources.{independent_of}
 use Rattle.groups.proofs.sources.stamp_independent.Goals as goal
 
 pub loop-i-init : goal.loop-i-init

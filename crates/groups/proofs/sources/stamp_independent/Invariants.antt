@@ -1,10 +1,8 @@
-use borrow.Author.Rules.{rules}
-use mathlib.Core.Path.{◌≡◌, refl, ◌∙◌}
-use Prim.Native.Nat.{◌-◌, ◌≤◌}
+use mathlib.Core.Path.{◌≡◌}
+use Prim.Native.Nat.{◌≤◌}
 use lib.ListN.{length}
 use Rattle.loops.specs.Loop.{turns}
-use Rattle.loops.specs.Laws.Loop.{more, done}
-use Rattle.groups.specs.Sources.{Driven, driven_of, driven_at, independent_of}
+use Rattle.groups.specs.Sources.{Driven, driven_of, driven_at}
 use Rattle.groups.proofs.sources.stamp_independent.Given as goal
 
 abbrev pub invariant-loop-i : goal.invariant-loop-i

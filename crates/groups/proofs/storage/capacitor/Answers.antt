@@ -1,5 +1,4 @@
 -- `groups::storage::capacitor` meets its contract: in a step one stamp, at DC none. Assumes nothing.
-use borrow.Author.Rules.{rules}
 use Rattle.stamps.specs.Write.{stamped}
 use Rattle.groups.specs.Storage.{capacitor_in}
 use Rattle.groups.proofs.storage.capacitor.Goals as goal

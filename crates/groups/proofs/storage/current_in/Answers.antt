@@ -1,5 +1,4 @@
 -- `groups::storage::current_in` meets its contract: the formula of a step, or the unknown of its row. Assumes nothing.
-use borrow.Author.Rules.{rules}
 use Rattle.groups.specs.Storage.{current_in}
 use Rattle.groups.proofs.storage.current_in.Goals as goal
 

@@ -1,5 +1,4 @@
 -- `groups::storage::inductor` meets its contract: in a step its companion, at DC a short. Assumes nothing.
-use borrow.Author.Rules.{rules}
 use Rattle.groups.specs.Storage.{inductor_in}
 use Rattle.groups.proofs.storage.inductor.Goals as goal
 

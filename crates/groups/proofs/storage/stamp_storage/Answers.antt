@@ -1,10 +1,8 @@
 -- `groups::storage::stamp_storage` meets its contract: the records passed have written their lists. Assumes nothing.
-use borrow.Author.Rules.{rules}
-use Prim.Native.Nat.{◌-◌}
 use mathlib.Core.Path.{refl}
 use Rattle.groups.specs.Records.{element_at}
 use Rattle.groups.specs.Storage.{storage_writes, storage_of}
-use Rattle.groups.proofs.Walk.{Walking, at_first, one_more_lem, at_last}
+use Rattle.groups.proofs.Walk.{at_first, one_more_lem, at_last}
 use Rattle.groups.proofs.storage.stamp_storage.Goals as goal
 
 pub loop-i-init : goal.loop-i-init

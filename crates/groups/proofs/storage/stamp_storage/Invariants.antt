@@ -1,9 +1,5 @@
-use borrow.Author.Rules.{rules}
-use Prim.Native.Nat.{◌-◌}
-use mathlib.Core.Path.{refl}
-use Rattle.groups.specs.Records.{element_at}
-use Rattle.groups.specs.Storage.{storage_writes, storage_of}
-use Rattle.groups.proofs.Walk.{Walking, at_first, one_more_lem, at_last}
+use Rattle.groups.specs.Storage.{storage_writes}
+use Rattle.groups.proofs.Walk.{Walking}
 use Rattle.groups.proofs.storage.stamp_storage.Given as goal
 
 abbrev pub invariant-loop-i : goal.invariant-loop-i

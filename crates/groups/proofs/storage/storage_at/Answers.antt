@@ -1,6 +1,5 @@
 -- `groups::storage::storage_at` meets its contract: by the tests on the kind byte; a record of another kind writes nothing. Assumes nothing.
 -- the kinds before the capacitor's
-use borrow.Author.Rules.{rules}
 use Prim.Native.Nat.{ℕ, ◌<◌}
 use mathlib.Core.Path.{◌≡◌, sym, ◌∙◌}
 use mathlib.Core.Bool.{Bool, true, and-eq-true_iff as both}

@@ -1,9 +1,6 @@
 -- `groups::storage::storage_one` meets its contract: a capacitor and an inductor have their stamps; any other kind writes nothing. Assumes nothing.
-use borrow.Author.Rules.{rules}
-use mathlib.Core.Path.{refl}
-use mathlib.Core.List.{[], ◌∷◌}
 use Rattle.stamps.specs.Write.{stamped}
-use Rattle.groups.specs.Storage.{storage_writes, unstored}
+use Rattle.groups.specs.Storage.{storage_writes}
 use Rattle.groups.specs.Laws.Quiet.{silent_storage}
 use Rattle.groups.proofs.Tags.{not_stored}
 use Rattle.groups.proofs.storage.storage_one.Goals as goal

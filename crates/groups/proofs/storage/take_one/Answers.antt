@@ -1,7 +1,4 @@
 -- `groups::storage::take_one` meets its contract: an inductor takes its current; any other kind takes nothing. Assumes nothing.
-use borrow.Author.Rules.{rules}
-use mathlib.Core.Path.{refl}
-use mathlib.Core.List.{[], ◌∷◌}
 use Rattle.groups.specs.Storage.{with_current}
 use Rattle.groups.specs.Laws.Quiet.{quiet_currents}
 use Rattle.groups.proofs.Tags.{not_inductor}
