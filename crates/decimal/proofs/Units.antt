@@ -10,7 +10,8 @@ use lib.Pow.{pow-add, pow_pos}
 use lib.ListN.{length}
 use Rattle.decimal.specs.Limbs.{value, Holds}
 use Rattle.decimal.specs.Scale.{place_of, top, bottom}
-use Rattle.decimal.specs.Laws.Units.{quarter_facts, bottom_pos, power_pos}
+use Rattle.decimal.specs.Laws.Units.{bottom_pos, power_pos}
+use Rattle.decimal.proofs.Laws.Units.{quarter_facts}
 use Rattle.decimal.proofs.Powers.{even_twice}
 
 -- ---- two steps on limbs are one

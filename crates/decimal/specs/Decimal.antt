@@ -1,4 +1,4 @@
--- A float as decimal digits. Clients cite decimal_of, read_back and, in Laws/ReadBack.antt, the law that joins them. Definitions only.
+-- A float as decimal digits. Clients cite decimal_of, read_back and, in proofs/Laws/ReadBack.antt, the law that joins them. Definitions only.
 use Rattle.std.specs.Prelude.{Bool, false, ◌&&◌, cond, ℕ, ◌+◌, ◌*◌, ◌/◌, ◌%◌, ◌^◌, eqb, leb, ltb, Float}
 use Rattle.std.specs.Float.{nan, inf, binary64}
 use Rattle.std.specs.Float.Ieee.{round, to_bits, is_nan}

@@ -1,4 +1,3 @@
--- What holds of the definitions, up to the law that every float reads back.
+-- What holds of the definitions: the decimal unit, and which float a fraction rounds to.
 pub mod Units
 pub mod Nearest
-pub mod ReadBack

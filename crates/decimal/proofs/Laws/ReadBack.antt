@@ -16,7 +16,8 @@ use Rattle.exact.specs.Laws.Units.{normal, subnormal}
 use Rattle.decimal.specs.declared.shortest.Span.{Span}
 use Rattle.decimal.specs.declared.shortest.Number.{Number}
 use Rattle.decimal.specs.Scale.{place_of, top, bottom, cut_of}
-use Rattle.decimal.specs.Laws.Units.{quarter_facts, bottom_pos, power_pos}
+use Rattle.decimal.specs.Laws.Units.{bottom_pos, power_pos}
+use Rattle.decimal.proofs.Laws.Units.{quarter_facts}
 use Rattle.decimal.specs.Shortest.{low_edge, least_of, most_of, span_of, inside_of, first_in, up_first, candidate_of, number_of}
 use Rattle.decimal.specs.Decimal.{sign_of, field_of, low_of, steps_of, of_pattern, decimal_of, read_back}
 use Rattle.decimal.specs.Laws.Nearest.{Between, Steps, rounds_to, zero_is}
