@@ -1,4 +1,4 @@
--- a float that does not differ from itself is no NaN, and one that does is
+-- `decimal::decimal_of` meets its contract.
 use borrow.Author.Rules.{rules}
 use mathlib.Core.Path.{◌≡◌, refl}
 use mathlib.Core.Bool.{Bool, true, false, not, beq}
@@ -11,6 +11,7 @@ use lib.Ieee.Bits.{is_false}
 use Rattle.decimal.specs.Decimal.{decimal_of}
 use Rattle.decimal.proofs.decimal_of.Goals as goal
 
+-- a float that does not differ from itself is no NaN, and one that does is
 number : (x : Float) → ne x x ≡ false → T (not (is_nan x))
 unfolding ne eq is_nan
 number nan e = let z : ◌≡◌ {A = Bool} true false = e in absurd (let w : ◌≡◌ {A = ℕ} 0 1 = cc in omega arith)
@@ -31,20 +32,16 @@ not-number (fin s m k) e = absurd (same s (m * up k * down k) e)
     same true n f = let u : eqb n n ≡ true = eq-eqb n n refl in let g : ◌≡◌ {A = Bool} false true = rw u at f in (let w : ◌≡◌ {A = ℕ} 0 1 = cc in omega arith)
     same false n f = let u : eqb n n ≡ true = eq-eqb n n refl in let g : ◌≡◌ {A = Bool} false true = rw u at f in (let w : ◌≡◌ {A = ℕ} 0 1 = cc in omega arith)
 
--- src/lib.rt:31:9
 pub returns-then-x : goal.returns-then-x
 unfolding decimal_of
 returns-then-x c = rw (not-number _ c.if-x.true)
 
--- src/lib.rt:33:16
 pub float_to_bits-x : goal.float_to_bits-x
 float_to_bits-x c = number _ c.if-x.false
 
--- src/lib.rt:33:5
 pub of_pattern-requires : goal.of_pattern-requires
 of_pattern-requires c = search rules
 
--- src/lib.rt:27:1
 pub returns : goal.returns
 unfolding decimal_of
 returns c = rw (is_false (is_nan c.args.x) (number c.args.x c.if-x.false)) c.of_pattern.ensures

@@ -1,4 +1,4 @@
--- src/lib.rt:66:32
+-- `decimal::of_steps` meets its contract.
 use borrow.Author.Rules.{rules}
 use mathlib.Core.Path.{sym, ap, subst, ◌∙◌}
 use Prim.Native.Nat.{◌^◌, ◌<◌}
@@ -13,16 +13,13 @@ use Rattle.decimal.proofs.of_steps.Goals as goal
 pub span_of-requires : goal.span_of-requires
 span_of-requires c = search rules
 
--- src/lib.rt:66:65
 pub place_of-requires : goal.place_of-requires
 place_of-requires c = search rules
 
--- src/lib.rt:66:9
 pub shortest-n-requires : goal.shortest-n-requires
 shortest-n-requires c =
     (record { few = subst (λ (z : Span). z.whole < 2 ^ 63) (sym c.span_of.ensures) (span_few c.args.b c.args.m c.args.narrow c.requires.0 c.requires.1 (omega arith)) }, omega arith)
 
--- src/lib.rt:62:1
 pub returns : goal.returns
 returns c =
     ap (λ (n : Number). signed c.args.minus n) (c.shortest-n.ensures ∙ (λ i. number_of (c.span_of.ensures i) (c.place_of.ensures i) 18))

@@ -1,4 +1,4 @@
--- `exact::at_most` meets its contract. The invariant: from i up the two rows stand for the same.
+-- `exact::at_most` meets its contract.
 use Rattle.std.proofs.Common.{◌≡◌, ℕ, drop, sym, ◌∙◌, subst, le_of_lt, arith, le-leb}
 use borrow.Author.Tests.{lt-leb}
 use Rattle.exact.specs.Limbs.{value}

@@ -1,4 +1,4 @@
--- `exact::clear` meets its contract. The invariant: the limbs before i are 0, the others as they were.
+-- `exact::clear` meets its contract.
 use Rattle.std.proofs.Common.{◌≡◌, ℕ, List, [], ◌++◌, length, drop, replicate, ◌∙◌, append-nil, arith, drop_of_length-le, rules}
 use borrow.Author.Fill.{fill_none, fill_more}
 use Rattle.exact.specs.Limbs.{limbs_of}

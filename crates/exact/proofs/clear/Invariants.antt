@@ -1,3 +1,4 @@
+-- The invariant of `exact::clear`: the limbs before i are 0, the others as they were.
 use Rattle.std.proofs.Common.{◌≡◌, ◌≤◌, ◌++◌, length, drop, replicate}
 use Rattle.exact.proofs.clear.Given as goal
 

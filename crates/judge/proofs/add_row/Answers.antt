@@ -1,4 +1,4 @@
--- `judge::add_row` meets its contract. The invariant: the rows keep the sum of the first j products.
+-- `judge::add_row` meets its contract.
 use borrow.Author.Rules.{rules}
 use mathlib.Core.Path.{◌≡◌, sym, ◌∙◌, subst}
 use mathlib.Core.Bool.{false}

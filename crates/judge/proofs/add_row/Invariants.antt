@@ -1,3 +1,4 @@
+-- The invariant of `judge::add_row`: the rows keep the sum of the first j products.
 use Prim.Native.Nat.{◌≤◌}
 use Rattle.exact.specs.Sums.{Sums}
 use Rattle.judge.specs.Judge.{total}

@@ -1,4 +1,4 @@
--- `judge::all_allowed` meets its contract. The invariant: what is left to look at says the same as the whole.
+-- `judge::all_allowed` meets its contract.
 use borrow.Author.Rules.{rules}
 use mathlib.Core.Path.{refl, sym, ◌∙◌}
 use native.Mathlib.Omega.{arith}

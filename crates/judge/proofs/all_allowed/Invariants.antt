@@ -1,3 +1,4 @@
+-- The invariant of `judge::all_allowed`: what is left to look at says the same as the whole.
 use mathlib.Core.Path.{◌≡◌}
 use Prim.Native.Nat.{◌≤◌}
 use lib.ListN.{length, drop}

@@ -1,4 +1,4 @@
--- `judge::judge_rows` meets its contract. The invariant: the rows that are left say the same as all of them.
+-- `judge::judge_rows` meets its contract.
 use borrow.Author.Rules.{rules}
 use mathlib.Core.Path.{sym, ◌∙◌}
 use mathlib.Core.Bool.{true, and-eq-true_iff as both}

@@ -1,3 +1,4 @@
+-- The invariant of `judge::judge_rows`: the rows that are left say the same as all of them.
 use mathlib.Core.Path.{◌≡◌}
 use Prim.Native.Nat.{◌-◌, ◌≤◌}
 use Rattle.judge.specs.Judge.{holds, named}

@@ -1,5 +1,4 @@
 -- `judge::refusal` meets its contract.
--- the lengths are enough, and the numbers decide
 use mathlib.Core.Path.{◌≡◌, sym, ◌∙◌}
 use mathlib.Core.Bool.{true, false, cond, ◌&&◌}
 use Prim.Native.Nat.{◌+◌, ◌*◌}
@@ -13,6 +12,7 @@ use Rattle.judge.proofs.Places.{size, numbers_decide}
 use Rattle.judge.proofs.refusal.Goals as goal
 use Rattle.judge.proofs.refusal.Goals.{Else-t-n}
 
+-- the lengths are enough, and the numbers decide
 decided : (c : Else-t-n) → judge_refusal c.args.n c.args.m.now c.args.x.now c.args.t.now ≡ cond (every (allowed false) (take (c.args.n * (c.args.n + 1)) c.args.m.now) && (every (allowed false) (take c.args.n c.args.x.now) && every (allowed true) (take c.args.n c.args.t.now))) 0 11
 decided c = numbers_decide c.args.n c.args.m.now c.args.x.now c.args.t.now c.if-n-eq0.false c.if-n-gt-UNKNOWNS.false c.if-m-size.false c.if-x-n.false c.if-t-n.false
 

@@ -1,6 +1,4 @@
 -- `judge::row_holds` meets its contract.
--- the row lies within the system
--- the row lies within the system
 use mathlib.Core.Path.{◌∙◌}
 use mathlib.Core.Bool.{false}
 use Prim.Native.Nat.{◌+◌, ◌*◌}
@@ -16,6 +14,7 @@ use Rattle.judge.proofs.Places.{Lies, lies}
 use Rattle.judge.proofs.row_holds.Goals as goal
 use Rattle.judge.proofs.row_holds.Goals.{Start}
 
+-- the row lies within the system
 at_row : (s : Start) → Lies s.args.i s.args.n
 at_row s = lies s.args.i s.args.n s.requires.1 s.requires.0.most
 

@@ -1,3 +1,4 @@
+-- What the loop of `tally::add_up` keeps true.
 use Prim.Native.Nat.{◌≤◌}
 use mathlib.Core.Path.{◌≡◌}
 use Rattle.exact.specs.Sums.{Sums}

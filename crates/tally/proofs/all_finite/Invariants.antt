@@ -1,3 +1,4 @@
+-- What the loop of `tally::all_finite` keeps true.
 use Prim.Native.Nat.{◌≤◌}
 use mathlib.Core.Path.{◌≡◌}
 use Rattle.tally.specs.Tally.{number_in, value_in, all_finite}

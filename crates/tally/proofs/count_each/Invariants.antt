@@ -1,3 +1,4 @@
+-- What the loop of `tally::count_each` keeps true.
 use Prim.Native.Nat.{◌≤◌}
 use mathlib.Core.List.{◌++◌}
 use mathlib.Core.Path.{◌≡◌}

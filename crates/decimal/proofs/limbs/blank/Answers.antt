@@ -1,4 +1,4 @@
--- src/limbs.rt:87:1
+-- `decimal::limbs::blank` meets its contract.
 use mathlib.Core.Path.{refl}
 use Rattle.decimal.specs.Limbs.{value}
 use Rattle.decimal.proofs.Value.{few_none}

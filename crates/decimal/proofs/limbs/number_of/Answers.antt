@@ -1,4 +1,4 @@
--- src/limbs.rt:24:5
+-- `decimal::limbs::number_of` meets its contract.
 use borrow.Author.Rules.{rules}
 use native.Mathlib.Omega.{arith}
 use mathlib.Core.Path.{sym, subst}
@@ -9,18 +9,14 @@ use Rattle.decimal.proofs.limbs.number_of.Goals as goal
 pub bounds-l-0 : goal.bounds-l-0
 bounds-l-0 c = search rules
 
--- src/limbs.rt:24:25
 pub bounds-l-1 : goal.bounds-l-1
 bounds-l-1 c = search rules
 
--- src/limbs.rt:24:12
 pub overflow_mul-result : goal.overflow_mul-result
 overflow_mul-result c = record { fits = omega (arith, c.requires.1 1) }
 
--- src/limbs.rt:24:5
 pub overflow_add-result : goal.overflow_add-result
 overflow_add-result c = record { fits = subst (λ (n : ℕ). n < 2 ^ 64) (sym (two_limbs _ c.requires.0 c.requires.2)) c.requires.2 }
 
--- src/limbs.rt:20:1
 pub returns : goal.returns
 returns c = two_limbs _ c.requires.0 c.requires.2

@@ -1,3 +1,4 @@
+-- What the loop of `decimal::limbs::over` keeps true.
 use Prim.Native.Nat.{◌≤◌}
 use lib.ListN.{length}
 use Rattle.decimal.proofs.Value.{Lowered}

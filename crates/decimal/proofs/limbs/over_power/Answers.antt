@@ -1,3 +1,4 @@
+-- `decimal::limbs::over_power` meets its contract.
 use borrow.Author.Rules.{rules}
 use native.Mathlib.Omega.{arith}
 use mathlib.Core.Path.{◌≡◌}
@@ -5,38 +6,30 @@ use Rattle.decimal.specs.Limbs.{value}
 use Rattle.decimal.proofs.Powers.{over_none, even_none, over_more, even_more}
 use Rattle.decimal.proofs.limbs.over_power.Goals as goal
 
--- src/limbs.rt:43:5
 pub loop-i-init : goal.loop-i-init
 loop-i-init c = (search rules, over_none _ _ c.requires.2, even_none (value c.args.l.now) c.args.d)
 
--- src/limbs.rt:44:22
 pub over-requires : goal.over-requires
 over-requires c = (c.requires.0, c.requires.1, c.loop-i.invariant.1.few)
 
--- src/limbs.rt:44:9
 pub still-even-requires : goal.still-even-requires
 still-even-requires c = search rules
 
--- src/limbs.rt:43:9
 pub overflow_step-i : goal.overflow_step-i
 overflow_step-i c = search rules
 
--- src/limbs.rt:43:5
 pub loop-i-smaller : goal.loop-i-smaller
 loop-i-smaller c = search rules
 
--- src/limbs.rt:43:5
 pub loop-i-preserved : goal.loop-i-preserved
 loop-i-preserved c =
     let l = c.loop-i in
     let o = c.over in
     (search rules, over_more _ _ _ l.i o.result l.l _ c.requires.0 l.invariant.1 o.ensures, even_more _ _ _ l.i o.result l.l _ l.even _ c.requires.0 l.invariant.1 o.ensures l.invariant.2 c.still-even.ensures)
 
--- src/limbs.rt:38:1
 pub shape_of-l : goal.shape_of-l
 shape_of-l c = search rules
 
--- src/limbs.rt:38:1
 pub returns : goal.returns
 returns c =
     let l = c.loop-i in

@@ -1,3 +1,4 @@
+-- What the loop of `decimal::limbs::over_power` keeps true.
 use mathlib.Core.Path.{◌≡◌}
 use Prim.Native.Nat.{◌/◌, ◌%◌, ◌^◌, ◌≤◌}
 use lib.Dec.{eqb}

@@ -1,3 +1,4 @@
+-- What the loop of `decimal::limbs::times` keeps true.
 use Prim.Native.Nat.{◌≤◌}
 use lib.ListN.{length}
 use Rattle.decimal.proofs.Value.{Raised}

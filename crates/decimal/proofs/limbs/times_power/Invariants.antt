@@ -1,3 +1,4 @@
+-- What the loop of `decimal::limbs::times_power` keeps true.
 use Prim.Native.Nat.{◌*◌, ◌^◌, ◌≤◌}
 use lib.ListN.{length}
 use Rattle.decimal.specs.Limbs.{value, Holds}

@@ -1,4 +1,4 @@
--- src/scale.rt:21:9
+-- `decimal::scale::cut_at` meets its contract.
 use borrow.Author.Rules.{rules}
 use mathlib.Core.Path.{refl, sym, subst, ◌∙◌}
 use Prim.Native.Nat.{ℕ, ◌^◌, ◌<◌}
@@ -10,19 +10,15 @@ use Rattle.decimal.proofs.scale.cut_at.Goals as goal
 pub place_of-w-requires : goal.place_of-w-requires
 place_of-w-requires c = search rules
 
--- src/scale.rt:22:17
 pub limbs_of-l-requires : goal.limbs_of-l-requires
 limbs_of-l-requires c = search rules
 
--- src/scale.rt:23:16
 pub slice_bounds-times_long-end : goal.slice_bounds-times_long-end
 slice_bounds-times_long-end c = search rules
 
--- src/scale.rt:23:43
 pub excess-requires : goal.excess-requires
 excess-requires c = search rules
 
--- src/scale.rt:23:5
 pub times_long-requires : goal.times_long-requires
 times_long-requires c =
     let a = c.args.a in
@@ -30,15 +26,12 @@ times_long-requires c =
     let j1 = c.limbs_of-l.ensures in
     (search rules, search rules, refl, search rules, search rules, j1.few, room_first _ a _ _ pre.0 pre.1 pre.2 c.excess.ensures j1)
 
--- src/scale.rt:24:16
 pub slice_bounds-times_long-end-2 : goal.slice_bounds-times_long-end-2
 slice_bounds-times_long-end-2 c = search rules
 
--- src/scale.rt:24:43
 pub excess-requires-2 : goal.excess-requires-2
 excess-requires-2 c = search rules
 
--- src/scale.rt:24:5
 pub times_long-requires-2 : goal.times_long-requires-2
 times_long-requires-2 c =
     let a = c.args.a in
@@ -47,35 +40,27 @@ times_long-requires-2 c =
     let j2 = join_times 36 _ _ _ _ j1 c.times_long.ensures in
     (search rules, search rules, refl, search rules, search rules, j2.few, room_second _ a _ _ _ _ pre.0 pre.1 pre.2 c.place_of-w.ensures c.excess.ensures c.excess-2.ensures j2)
 
--- src/scale.rt:25:26
 pub slice_bounds-over_long-end : goal.slice_bounds-over_long-end
 slice_bounds-over_long-end c = search rules
 
--- src/scale.rt:25:53
 pub excess-requires-3 : goal.excess-requires-3
 excess-requires-3 c = search rules
 
--- src/scale.rt:25:9
 pub over_long-twos-requires : goal.over_long-twos-requires
 over_long-twos-requires c = search rules
 
--- src/scale.rt:26:26
 pub slice_bounds-over_long-end-2 : goal.slice_bounds-over_long-end-2
 slice_bounds-over_long-end-2 c = search rules
 
--- src/scale.rt:26:53
 pub excess-requires-4 : goal.excess-requires-4
 excess-requires-4 c = search rules
 
--- src/scale.rt:26:9
 pub over_long-tens-requires : goal.over_long-tens-requires
 over_long-tens-requires c = search rules
 
--- src/scale.rt:28:40
 pub slice_bounds-number_of-end : goal.slice_bounds-number_of-end
 slice_bounds-number_of-end c = search rules
 
--- src/scale.rt:28:16
 pub number_of-requires : goal.number_of-requires
 number_of-requires c =
     let a = c.args.a in
@@ -93,11 +78,9 @@ number_of-requires c =
     let whole = whole_at _ a _ _ _ _ _ _ w x y u v j5 in
     (subst (λ (n : ℕ). 1 < n) (sym j5.limbs) (lit< tt), j5.few, lt_of_lt_of_le (subst (λ (n : ℕ). n < 2 ^ 63) (sym whole) (whole_few _ a pre.0 pre.1 pre.2)) (lit≤ {m = 2 ^ 63} tt))
 
--- src/scale.rt:29:15
 pub both-requires : goal.both-requires
 both-requires c = search rules
 
--- src/scale.rt:17:1
 pub returns : goal.returns
 returns c =
     let a = c.args.a in

@@ -1,4 +1,4 @@
--- src/scale.rt:55:50
+-- `decimal::scale::over_long` meets its contract.
 use borrow.Author.Rules.{rules}
 use Rattle.decimal.proofs.Powers.{big_pos, over_both, even_both}
 use Rattle.decimal.proofs.scale.over_long.Goals as goal
@@ -6,28 +6,22 @@ use Rattle.decimal.proofs.scale.over_long.Goals as goal
 pub nonzero_div-n : goal.nonzero_div-n
 nonzero_div-n c = search rules
 
--- src/scale.rt:55:9
 pub over_power-first-requires : goal.over_power-first-requires
 over_power-first-requires c =
     (big_pos c.args.k c.args.big c.args.size c.args.n c.requires.2 c.requires.0, c.requires.3, c.requires.5)
 
--- src/scale.rt:56:49
 pub nonzero_rem-n : goal.nonzero_rem-n
 nonzero_rem-n c = search rules
 
--- src/scale.rt:56:9
 pub over_power-second-requires : goal.over_power-second-requires
 over_power-second-requires c = search rules
 
--- src/scale.rt:57:5
 pub both-requires : goal.both-requires
 both-requires c = search rules
 
--- src/scale.rt:51:1
 pub shape_of-l : goal.shape_of-l
 shape_of-l c = search rules
 
--- src/scale.rt:51:1
 pub returns : goal.returns
 returns c =
     let s = c.over_power-first.ensures in

@@ -1,4 +1,4 @@
--- src/shortest.rt:102:13
+-- `decimal::shortest::candidate` meets its contract.
 use borrow.Author.Rules.{rules}
 use mathlib.Core.Path.{sym, ◌∙◌}
 use Rattle.decimal.specs.Shortest.{candidate_of}
@@ -8,32 +8,25 @@ use Rattle.decimal.proofs.shortest.candidate.Goals as goal
 pub nonzero_div-d : goal.nonzero_div-d
 nonzero_div-d c = search rules
 
--- src/shortest.rt:103:8
 pub up_first-requires : goal.up_first-requires
 up_first-requires c = search rules
 
--- src/shortest.rt:104:24
 pub overflow_add-d : goal.overflow_add-d
 overflow_add-d c = record { fits = next_few _ _ c.requires.0.few }
 
--- src/shortest.rt:104:9
 pub first_in-requires : goal.first_in-requires
 first_in-requires c = (above_few _ _ c.requires.0.few c.requires.2, below_few _ _ c.requires.0.few)
 
--- src/shortest.rt:106:27
 pub overflow_add-d-else-up_first : goal.overflow_add-d-else-up_first
 overflow_add-d-else-up_first c = record { fits = next_few _ _ c.requires.0.few }
 
--- src/shortest.rt:106:9
 pub first_in-requires-else-up_first : goal.first_in-requires-else-up_first
 first_in-requires-else-up_first c = (below_few _ _ c.requires.0.few, above_few _ _ c.requires.0.few c.requires.2)
 
--- src/shortest.rt:98:1
 pub returns-then-up_first : goal.returns-then-up_first
 unfolding candidate_of
 returns-then-up_first c = rw (sym c.up_first.ensures ∙ c.if-up_first.true) c.first_in.ensures
 
--- src/shortest.rt:98:1
 pub returns-else-up_first : goal.returns-else-up_first
 unfolding candidate_of
 returns-else-up_first c = rw (sym c.up_first.ensures ∙ c.if-up_first.false) c.first_in-else-up_first.ensures

@@ -1,3 +1,4 @@
+-- What the loop of `decimal::shortest::shortest` keeps true.
 use mathlib.Core.Path.{◌≡◌}
 use Prim.Native.Nat.{◌^◌, ◌≤◌}
 use Rattle.decimal.specs.Shortest.{number_of}

@@ -1,4 +1,4 @@
--- src/shortest.rt:28:42
+-- `decimal::shortest::span_of` meets its contract.
 use borrow.Author.Rules.{rules}
 use mathlib.Core.Path.{sym, ap, subst, ◌∙◌}
 use Prim.Native.Nat.{ℕ, ◌+◌, ◌*◌, ◌%◌, ◌^◌, ◌<◌}
@@ -14,43 +14,34 @@ use Rattle.decimal.proofs.shortest.span_of.Goals as goal
 pub overflow_mul-m : goal.overflow_mul-m
 overflow_mul-m c = search rules
 
--- src/shortest.rt:28:9
 pub cut_at-middle-requires : goal.cut_at-middle-requires
 cut_at-middle-requires c = search rules
 
--- src/shortest.rt:29:41
 pub low_edge-requires : goal.low_edge-requires
 low_edge-requires c = search rules
 
--- src/shortest.rt:29:9
 pub cut_at-below-requires : goal.cut_at-below-requires
 cut_at-below-requires c = (c.requires.0, c.requires.1, subst (λ (n : ℕ). n < 2 ^ 56) (sym c.low_edge.ensures) (edge_few _ c.args.narrow c.requires.3))
 
--- src/shortest.rt:30:41
 pub overflow_mul-m-2 : goal.overflow_mul-m-2
 overflow_mul-m-2 c = search rules
 
--- src/shortest.rt:30:41
 pub overflow_add-m : goal.overflow_add-m
 overflow_add-m c = search rules
 
--- src/shortest.rt:30:9
 pub cut_at-above-requires : goal.cut_at-above-requires
 cut_at-above-requires c = search rules
 
--- src/shortest.rt:34:16
 pub least_of-requires : goal.least_of-requires
 least_of-requires c =
     let p = c.requires in
     subst (λ (z : Cut). z.whole < 2 ^ 63) (sym c.cut_at-below.ensures) (whole_few _ _ p.0 p.1 (subst (λ (n : ℕ). n < 2 ^ 56) (sym c.low_edge.ensures) (edge_few _ c.args.narrow p.3)))
 
--- src/shortest.rt:35:15
 pub most_of-requires : goal.most_of-requires
 most_of-requires c =
     let p = c.requires in
     subst (λ (z : Cut). 0 < z.whole) (sym c.cut_at-above.ensures) (positive (4 * c.args.m + 2) _ (omega arith) (whole_many _ _ p.0 p.1 (omega arith)))
 
--- src/shortest.rt:24:1
 pub returns : goal.returns
 unfolding span_of
 returns c =

@@ -1,4 +1,4 @@
--- src/shortest.rt:115:16
+-- `decimal::shortest::up_first` meets its contract.
 use borrow.Author.Rules.{rules}
 use borrow.Author.Tests.{eq-eqb, ne_eqb}
 use Rattle.decimal.specs.Shortest.{up_first}
@@ -8,29 +8,23 @@ use Rattle.decimal.proofs.shortest.up_first.Goals as goal
 pub nonzero_rem-rest : goal.nonzero_rem-rest
 nonzero_rem-rest c = search rules
 
--- src/shortest.rt:116:8
 pub overflow_mul-rest : goal.overflow_mul-rest
 overflow_mul-rest c = record { fits = twice_rest _ _ c.requires.1 c.requires.2 }
 
--- src/shortest.rt:118:20
 pub nonzero_div-result : goal.nonzero_div-result
 nonzero_div-result c = search rules
 
--- src/shortest.rt:118:13
 pub returns-then-s : goal.returns-then-s
 unfolding up_first
 returns-then-s c = rw (eq-eqb _ _ c.if-rest-t.true, c.if-s.true)
 
--- src/shortest.rt:120:9
 pub returns-then-rest-t : goal.returns-then-rest-t
 unfolding up_first
 returns-then-rest-t c = rw (eq-eqb _ _ c.if-rest-t.true, c.if-s.false)
 
--- src/shortest.rt:122:9
 pub overflow_mul-result : goal.overflow_mul-result
 overflow_mul-result c = record { fits = twice_rest _ _ c.requires.1 c.requires.2 }
 
--- src/shortest.rt:111:1
 pub returns : goal.returns
 unfolding up_first
 returns c = rw (ne_eqb _ _ c.if-rest-t.false)

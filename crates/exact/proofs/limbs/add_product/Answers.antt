@@ -1,11 +1,11 @@
 -- `exact::limbs::add_product` meets its contract.
--- the three words are added, and a carry is left
 use Rattle.std.proofs.Common.{◌≡◌, ◌+◌, ◌*◌, ◌/◌, ◌^◌, length, ◌∙◌}
 use Rattle.exact.specs.Limbs.{value}
 use Rattle.exact.proofs.Words.{added_words}
 use Rattle.exact.proofs.limbs.add_product.Goals as goal
 use Rattle.exact.proofs.limbs.add_product.Goals.{After-add_word-c2}
 
+-- the three words are added, and a carry is left
 words : (c : After-add_word-c2) → value c.add_word-c2.new.limbs + c.add_word-c2.result * 2 ^ (64 * (c.args.bit / 64 + 3)) ≡ value c.args.limbs.now + c.args.a * c.args.b * 2 ^ c.args.bit
 words c =
     added_words c.args.limbs.now _ _ _ (c.args.a * c.args.b) _ _ c.args.bit _ _ _ _ _ _ c.product-w.ensures

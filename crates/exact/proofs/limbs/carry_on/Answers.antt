@@ -1,4 +1,4 @@
--- `exact::limbs::carry_on` meets its contract. The invariant: the limbs with the carry at i are what is to come out.
+-- `exact::limbs::carry_on` meets its contract.
 use Rattle.std.proofs.Common.{◌≡◌, ℕ, ◌*◌, ◌^◌, ◌<◌, length, sym, ap, ◌∙◌, subst, zero-add, zero-mul, arith}
 use Rattle.exact.specs.Limbs.{value}
 use Rattle.exact.proofs.Carry.{inside}

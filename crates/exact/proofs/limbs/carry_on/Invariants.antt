@@ -1,3 +1,4 @@
+-- The invariant of `exact::limbs::carry_on`: the limbs with the carry at i are what is to come out.
 use Rattle.std.proofs.Common.{◌≡◌, ◌+◌, ◌-◌, ◌*◌, ◌^◌, ◌<◌, length}
 use Rattle.exact.specs.Limbs.{value}
 use Rattle.exact.proofs.limbs.carry_on.Given as goal

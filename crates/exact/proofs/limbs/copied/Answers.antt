@@ -1,10 +1,10 @@
--- `exact::limbs::copied` meets its contract. The invariant: the limbs before i are copied, the others are still 0.
--- one limb more is copied
+-- `exact::limbs::copied` meets its contract.
 use Rattle.std.proofs.Common.{◌≡◌, ℕ, zero, suc, ◌+◌, ◌*◌, ◌^◌, ◌<◌, List, [], ◌∷◌, ◌++◌, length, get_or, take, drop, set, refl, ap, ◌∙◌, le_of_suc-le-suc, not-suc-le-zero, add-one, arith, take_all, rules}
 use Rattle.exact.specs.Limbs.{value, limbs_of}
 use Rattle.exact.specs.Laws.Limbs.{length_limbs}
 use Rattle.exact.proofs.limbs.copied.Goals as goal
 
+-- one limb more is copied
 one_more_lem : (t d : List ℕ) (i : ℕ) → i < length t → i < length d → set (take i t ++ drop i d) i (get_or t i 0) ≡ take (suc i) t ++ drop (suc i) d
 one_more_lem [] d i l m = absurd (not-suc-le-zero l)
 one_more_lem (x ∷ t) [] i l m = absurd (not-suc-le-zero m)

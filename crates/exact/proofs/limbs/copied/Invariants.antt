@@ -1,3 +1,4 @@
+-- The invariant of `exact::limbs::copied`: the limbs before i are copied, the others are still 0.
 use Rattle.std.proofs.Common.{◌≡◌, ◌≤◌, ◌++◌, length, take, drop}
 use Rattle.exact.proofs.limbs.copied.Given as goal
 

@@ -1,5 +1,4 @@
 -- `exact::parts::parts_of` meets its contract.
--- a finite float is a number
 use Rattle.std.proofs.Common.{◌≡◌, ℕ, suc, ◌-◌, ◌/◌, ◌%◌, ◌^◌, ◌<◌, not, T, arith}
 use denote.Floats.{passes}
 use lib.Ieee.{Float, nan, inf, fin, binary64, to_bits, fits, is_nan}
@@ -7,6 +6,7 @@ use lib.Ieee.Scale.{finite}
 use Rattle.exact.specs.Laws.Units.{said_sign, said_units, subnormal, normal}
 use Rattle.exact.proofs.parts.parts_of.Goals as goal
 
+-- a finite float is a number
 number : (x : Float) → T (finite x) → T (not (is_nan x))
 unfolding is_nan
 number nan h = absurd h

@@ -1,3 +1,4 @@
+-- What the loop of `mean::leading::blank` keeps true.
 use Rattle.std.proofs.Common.{◌≡◌, ◌≤◌, eqb, take}
 use Rattle.exact.specs.Limbs.{value}
 use Rattle.mean.proofs.leading.blank.Given as goal

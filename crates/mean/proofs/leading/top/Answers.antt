@@ -1,11 +1,11 @@
 -- `mean::leading::top` meets its contract.
--- a limb of 0 under limbs of 0
 use Rattle.std.proofs.Common.{◌≡◌, ℕ, ◌+◌, ◌-◌, ◌*◌, ◌^◌, ◌<◌, List, get_or, drop, ap, ◌∙◌, inl, inr, arith, rules}
 use Rattle.exact.specs.Limbs.{value}
 use Rattle.exact.proofs.Order.{none_past}
 use Rattle.mean.proofs.Turns.{value-drop}
 use Rattle.mean.proofs.leading.top.Goals as goal
 
+-- a limb of 0 under limbs of 0
 lower : (l : List ℕ) (h : ℕ) → 0 < h → get_or l h 0 ≡ 0 → value (drop (h + 1) l) ≡ 0 → value (drop (h - 1 + 1) l) ≡ 0
 lower l h p x e = ap (λ (n : ℕ). value (drop n l)) (back h p) ∙ value-drop l h ∙ (λ j. x j + 2 ^ 64 * e j)
   where

@@ -1,3 +1,4 @@
+-- What the loop of `mean::leading::top` keeps true.
 use Rattle.std.proofs.Common.{◌≡◌, ◌+◌, ◌≤◌, drop}
 use Rattle.exact.specs.Limbs.{value}
 use Rattle.mean.proofs.leading.top.Given as goal

@@ -1,3 +1,4 @@
+-- What the loop of `mean::limbs::difference` keeps true.
 use Rattle.std.proofs.Common.{◌≤◌}
 use Rattle.mean.proofs.Turns.{Lessened}
 use Rattle.mean.proofs.limbs.difference.Given as goal

@@ -1,3 +1,4 @@
+-- What the loop of `mean::limbs::over` keeps true.
 use Rattle.std.proofs.Common.{◌≤◌, length}
 use Rattle.mean.proofs.Turns.{Lowered}
 use Rattle.mean.proofs.limbs.over.Given as goal
