@@ -1,5 +1,5 @@
 -- At a thermal voltage above zero a fall back is a step down and a climb a step up, each by more than two thermal voltages. Clients cite fall_down and climb_up. Assumes nothing.
-use Rattle.std.specs.Prelude.{ℕ, zero, suc, ◌+◌, ◌-◌, ◌*◌, ◌^◌, ◌≤◌, ◌<◌, ◌≡◌, refl, ◌⊎◌, Bool, true, false, not, ◌&&◌, ◌||◌, cond, T, ltb, eqb, ℤ, pos, Float}
+use Rattle.std.specs.Prelude.{ℕ, zero, suc, ◌+◌, ◌-◌, ◌*◌, ◌^◌, ◌≤◌, ◌<◌, ◌≡◌, refl, Bool, true, false, not, ◌&&◌, ◌||◌, cond, T, ltb, eqb, ℤ, pos, Float}
 use Rattle.std.proofs.Common.{sym, ◌∙◌, subst, ⊎_elim, eq-or-lt_of_le, le_of_lt, zero-mul, one-mul, mul_assoc, mul-pos, arith, ltb-false, lt-ltb, le-ltb, ne_eqb, eq-eqb, eqb-true, ltb→lt, pow_pos}
 use Rattle.std.specs.Float.{nan, inf, fin, Format, binary64}
 use Rattle.std.specs.Float.Ieee.{prec, emax, low, up, down, odd, units, round, neg, sum, add, mul, div, lt, eq, le, below, level, fits, is_nan, of_bits}

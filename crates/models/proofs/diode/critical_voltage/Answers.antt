@@ -1,4 +1,3 @@
-use borrow.Author.Rules.{rules}
 use Rattle.models.specs.Diode.{critical}
 use Rattle.models.proofs.diode.critical_voltage.Goals as goal
 

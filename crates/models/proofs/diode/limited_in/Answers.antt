@@ -1,4 +1,3 @@
-use borrow.Author.Rules.{rules}
 use Rattle.models.specs.Situation.{limited_in}
 use Rattle.models.proofs.diode.limited_in.Goals as goal
 

@@ -1,4 +1,3 @@
-use borrow.Author.Rules.{rules}
 use Rattle.models.specs.Diode.{linearized}
 use Rattle.models.proofs.diode.linearize.Goals as goal
 

@@ -1,4 +1,3 @@
-use borrow.Author.Rules.{rules}
 use Rattle.models.specs.Laws.Situations.{limited_chosen}
 use Rattle.models.proofs.diode.linearize_at.Goals as goal
 

@@ -1,4 +1,3 @@
-use borrow.Author.Rules.{rules}
 use Rattle.models.specs.Diode.{model_at}
 use Rattle.models.proofs.diode.model_at.Goals as goal
 

@@ -1,4 +1,3 @@
-use borrow.Author.Rules.{rules}
 use Rattle.models.specs.Situation.{situation_of}
 use Rattle.models.proofs.diode.situation_of.Goals as goal
 

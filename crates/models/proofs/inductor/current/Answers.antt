@@ -1,5 +1,4 @@
 -- `models::inductor::current` meets its contract: the conductance, then the definition's product and sum. Assumes nothing.
-use borrow.Author.Rules.{rules}
 use Rattle.models.specs.Inductor.{current_after}
 use Rattle.models.proofs.inductor.current.Goals as goal
 

@@ -1,4 +1,3 @@
-use borrow.Author.Rules.{rules}
 use Rattle.models.specs.Sine.{sine_at, level_of}
 use Rattle.models.proofs.sine.evaluate.Goals as goal
 

@@ -1,10 +1,8 @@
 use borrow.Author.Rules.{rules}
-use Prim.Native.Nat.{◌+◌, ◌-◌, ◌≤◌}
-use mathlib.Core.Path.{◌≡◌, sym, ◌∙◌}
+use Prim.Native.Nat.{◌+◌, ◌-◌}
+use mathlib.Core.Path.{sym, ◌∙◌}
 use native.Mathlib.Nat.{add-zero, sub-zero}
 use native.Mathlib.Omega.{arith}
-use Rattle.num.specs.Floats.{nought}
-use Rattle.models.specs.Vpwl.{between, points_from}
 use Rattle.models.proofs.Points.{no_point, reached, beyond}
 use Rattle.models.proofs.vpwl.between.Goals as goal
 

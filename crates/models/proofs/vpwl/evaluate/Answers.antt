@@ -1,4 +1,3 @@
-use borrow.Author.Rules.{rules}
 use native.Mathlib.Omega.{arith}
 use Rattle.models.specs.Vpwl.{pattern_at, points_from, level_at}
 use Rattle.models.proofs.Points.{some_points}

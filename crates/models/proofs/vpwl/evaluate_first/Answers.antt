@@ -1,5 +1,4 @@
 -- `models::vpwl::evaluate_first` meets its contract: each return is a sentence of `pattern_first_at`, in the same order. Assumes nothing.
-use borrow.Author.Rules.{rules}
 use mathlib.Core.Path.{refl}
 use native.Mathlib.Omega.{arith}
 use borrow.Author.Tests.{eq-eqb, ne_eqb}

@@ -1,5 +1,4 @@
 -- `models::vpwl::level` meets its contract: one rule or the other, by the option. Assumes nothing.
-use borrow.Author.Rules.{rules}
 use Rattle.models.specs.Vpwl.{pattern_of}
 use Rattle.models.proofs.vpwl.level.Goals as goal
 

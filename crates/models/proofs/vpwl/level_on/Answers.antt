@@ -1,4 +1,3 @@
-use borrow.Author.Rules.{rules}
 use Rattle.models.specs.Vpwl.{level_on}
 use Rattle.models.proofs.vpwl.level_on.Goals as goal
 
