@@ -9,4 +9,3 @@ pub mod Rising
 pub mod First
 pub mod Cases
 pub mod SineAtZero
-pub mod SituationCases

@@ -1,5 +1,5 @@
 -- The five situations of the diode's limiting rule, and the formula of each. `limited` (Diode) is the same rule in the Rust's order; that the two agree on every
--- input, and that exactly one situation holds, is in Laws/Situations.
+-- input, and that exactly one situation holds, is in proofs/Laws/Situations.
 use Rattle.std.specs.Prelude.{Bool, cond, Float}
 use Rattle.std.specs.Float.Ieee.{lt, le}
 use Rattle.num.specs.Floats.{nought, absolute_of}

@@ -1,4 +1,4 @@
-use Rattle.models.specs.Laws.Situations.{limited_chosen}
+use Rattle.models.proofs.Laws.Situations.{limited_chosen}
 use Rattle.models.proofs.diode.linearize_at.Goals as goal
 
 pub returns : goal.returns
