@@ -1,6 +1,5 @@
--- Values and Bounds say what holds of exp, ln and sin; the others are the way from the definitions to the bounds, which proofs/Bounds.antt states.
+-- Values says what holds of exp, ln and sin, beside Bounds in proofs/Laws; the others are the way from the definitions to the bounds.
 pub mod Values
-pub mod Bounds
 pub mod Product
 pub mod Horner
 pub mod Bits64

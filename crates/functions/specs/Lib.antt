@@ -1,4 +1,4 @@
--- What exp, ln and sin answer. Read Exp, Ln and Sin; then Values in specs/Laws and Bounds in proofs/.
+-- What exp, ln and sin answer. Read Exp, Ln and Sin; then, in `Laws`, Values, and Bounds in proofs/Laws.
 pub mod Fraction
 pub mod Reduction
 pub mod Words

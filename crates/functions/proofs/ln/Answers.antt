@@ -1,7 +1,7 @@
 -- `functions::ln` meets its contract. Assumes nothing.
 use Rattle.std.proofs.Common.{sym, ◌∙◌}
 use lib.Ieee.{div, of_bits, neg}
-use Rattle.functions.specs.Laws.Bounds.{ln_sum}
+use Rattle.functions.proofs.Laws.Bounds.{ln_sum}
 use Rattle.functions.proofs.Ends.{is_positive, ln_infinity, ln_zero, ln_none}
 use Rattle.functions.proofs.ln.Goals as goal
 

@@ -3,7 +3,7 @@ use Rattle.std.proofs.Common.{sym, ap, ◌∙◌}
 use lib.Ieee.{of_bits, neg}
 use Rattle.functions.specs.declared.Sine.TheVariants.{Value}
 use Rattle.functions.proofs.Ends.{sin_above, sin_below, sin_nan, sin_in_range}
-use Rattle.functions.proofs.SinLaw.{in_range}
+use Rattle.functions.proofs.Laws.SinLaw.{in_range}
 use Rattle.functions.proofs.sin.Goals as goal
 
 pub returns-then-x : goal.returns-then-x

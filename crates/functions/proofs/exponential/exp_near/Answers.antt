@@ -7,7 +7,7 @@ use Rattle.num.specs.Floats.{sign}
 use Rattle.functions.specs.Reduction.{nearest_of, below_of}
 use Rattle.functions.specs.Words.{packed, Room}
 use Rattle.functions.specs.Exp.{ell, fixed_exp, exp_size, exp_of, ExpRange}
-use Rattle.functions.proofs.ExpLaw.{is_finite, up_to, down_to, in_range, k_up, k_down, f_small, sum_room}
+use Rattle.functions.proofs.Laws.ExpLaw.{is_finite, up_to, down_to, in_range, k_up, k_down, f_small, sum_room}
 use Rattle.functions.proofs.exponential.exp_near.Goals as goal
 
 size_lt : (x : Float) → ExpRange x → num x < 2 ^ 21 * den x

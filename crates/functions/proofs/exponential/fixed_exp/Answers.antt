@@ -2,7 +2,7 @@
 use Rattle.std.proofs.Common.{◌≡◌, ℕ, ◌+◌, ◌*◌, ◌/◌, ◌^◌, ◌<◌, ◌≤◌, false, sym, ap, ◌∙◌, subst, arith, w64, Fits}
 use Rattle.functions.specs.Words.{horner, upper}
 use Rattle.functions.specs.Exp.{even_words, odd_words, fixed_exp}
-use Rattle.functions.proofs.ExpLaw.{square_small, fits_minus, sum_of_word}
+use Rattle.functions.proofs.Laws.ExpLaw.{square_small, fits_minus, sum_of_word}
 use Rattle.functions.proofs.exponential.fixed_exp.Goals as goal
 
 small : (n : ℕ) → n + 2 ^ 9 < 2 ^ 63 → Fits w64 n

@@ -4,7 +4,7 @@ use mathlib.Core.Bool.{beq}
 use lib.Ieee.{Float, neg}
 use Rattle.functions.specs.Fraction.{apart}
 use Rattle.functions.specs.Ln.{ln_word, z_word, one_of, ln_float, minus_of, place_of, ln_answer, Digits}
-use Rattle.functions.proofs.LnLaw.{z_small, word_small, k_small, k_some}
+use Rattle.functions.proofs.Laws.LnLaw.{z_small, word_small, k_small, k_some}
 use Rattle.functions.proofs.logarithm.ln_answer.Goals as goal
 
 range : (h : Bool) (q : ℕ) → Digits h q → (2 ^ 53 ≤ q + one_of h) × (q + one_of h < 2 ^ 54) × (1 ≤ q) × (1 ≤ one_of h)

@@ -5,7 +5,7 @@ use Rattle.functions.specs.Words.{packed}
 use Rattle.functions.specs.Exp.{ell}
 use Rattle.functions.specs.Ln.{unit_of, ln_size}
 use Rattle.functions.specs.Laws.Packed.{room}
-use Rattle.functions.proofs.LnLaw.{size_lt, unit_taken}
+use Rattle.functions.proofs.Laws.LnLaw.{size_lt, unit_taken}
 use Rattle.functions.proofs.logarithm.ln_float.Goals as goal
 
 range : (k : ℕ) → (3 ≤ unit_of k) × (unit_of k ≤ 32)

@@ -2,7 +2,7 @@
 use Rattle.std.proofs.Common.{ℕ, ◌*◌, ◌/◌, ◌^◌, ◌≤◌, sym, ap, ◌∙◌, subst}
 use Rattle.functions.specs.Words.{horner}
 use Rattle.functions.specs.Ln.{ln_words, ln_word}
-use Rattle.functions.proofs.LnLaw.{square_small}
+use Rattle.functions.proofs.Laws.LnLaw.{square_small}
 use Rattle.functions.proofs.logarithm.ln_word.Goals as goal
 
 pub ln_sum-requires : goal.ln_sum-requires

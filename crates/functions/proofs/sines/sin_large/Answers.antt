@@ -7,7 +7,7 @@ use Rattle.functions.specs.Reduction.{below_of, k_of, f_top}
 use Rattle.functions.specs.Words.{packed}
 use Rattle.functions.specs.Sin.{quarter, wave_word, wave_side, sin_large}
 use Rattle.functions.specs.Laws.Packed.{room}
-use Rattle.functions.proofs.SinLaw.{word_most}
+use Rattle.functions.proofs.Laws.SinLaw.{word_most}
 use Rattle.functions.proofs.sines.sin_large.Goals as goal
 
 -- every word packs
