@@ -1,12 +1,11 @@
 -- `behind::behind_at` meets its contract: by what the record decodes to as a diode. Assumes nothing.
-use borrow.Author.Rules.{rules}
 use Rattle.behind.specs.Behind.{behind_at}
 use Rattle.behind.proofs.behind_at.Goals as goal
 
 pub returns-in_default : goal.returns-in_default
 unfolding behind_at
-returns-in_default c = rw (← c.record_of-d.ensures, c.enum_told-1.given.1)
+returns-in_default c = rw (← c.record_of-d.ensures, c.in_default.is)
 
 pub returns : goal.returns
 unfolding behind_at
-returns c = rw (← c.record_of-d.ensures, c.d-1.given.1, c.diode_behind.ensures, c.number_at.ensures)
+returns c = rw (← c.record_of-d.ensures, c.in-Good.is, c.diode_behind.ensures, c.number_at.ensures)

@@ -1,5 +1,4 @@
 -- `behind::behind_number` meets its contract: the options' two tolerances are handed on. Assumes nothing.
-use borrow.Author.Rules.{rules}
 use Rattle.behind.specs.Behind.{behind_number}
 use Rattle.behind.proofs.behind_number.Goals as goal
 

@@ -1,5 +1,4 @@
 -- `behind::caught_up` meets its contract. Assumes nothing.
-use borrow.Author.Rules.{rules}
 use Rattle.behind.specs.Behind.{caught_up_of}
 use Rattle.behind.proofs.caught_up.Goals as goal
 

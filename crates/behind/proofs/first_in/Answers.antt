@@ -1,16 +1,15 @@
 -- `behind::first_in` meets its contract: what is first from the turn's record on is first in all. Assumes nothing.
 -- the records from i on, of n in all: the first of them, or the first of the rest
-use Prim.Native.Nat.{ℕ, ◌+◌, ◌-◌, ◌≤◌, ◌<◌, suc}
+use Prim.Native.Nat.{ℕ, ◌+◌, ◌-◌, ◌<◌, suc}
 use mathlib.Core.Path.{◌≡◌, refl, sym, ◌∙◌}
-use mathlib.Core.Logic.{⊎_elim}
 use mathlib.Core.Bool.{Bool, true, false}
 use native.Mathlib.Omega.{arith}
 use native.Mathlib.Nat.{sub-zero}
-use borrow.Author.Rules.{rules}
 use Rattle.behind.specs.declared.Behind.TheVariants.{At}
 use Rattle.behind.specs.Behind.{behind_at, first_from, first_in}
 use Rattle.behind.specs.Laws.Quiet.{other_kind}
 use Rattle.behind.proofs.first_in.Goals as goal
+use Rattle.behind.proofs.first_in.Goals.{then-kind_at-eq-DIODE+else-behind_at, else-kind_at-eq-DIODE}
 
 module _ (test : ℕ → Bool) (n i : ℕ) (h : i < n) {b : Bool} (q : b ≡ test i) where
   found : b ≡ true → first_from test (n - i) i ≡ At i
@@ -36,10 +35,10 @@ loop-i-preserved c =
     let l = c.loop-i in
     let a = c.args in (
       omega arith,
-      ⊎_elim
-          (λ u. passed (behind_at a.reltol a.vntol a.sheet.now a.vector.now a.memory.now) c.records-count.result l.i c.loop-i-test.true u.1.ensures u.2.left ∙ l.invariant.1)
-          (λ u. passed (behind_at a.reltol a.vntol a.sheet.now a.vector.now a.memory.now) c.records-count.result l.i c.loop-i-test.true (sym (other_kind _ _ _ _ _ _ (λ e. u.left (c.kind_at.ensures ∙ e)))) refl ∙ l.invariant.1)
-          c.if-kind_at-eq-DIODE.branch,
+      elim c.if-kind_at-eq-DIODE.branch [
+        | then-kind_at-eq-DIODE+else-behind_at w ↦ passed (behind_at a.reltol a.vntol a.sheet.now a.vector.now a.memory.now) c.records-count.result l.i c.loop-i-test.true w.behind_at.ensures w.if-behind_at.false ∙ l.invariant.1
+        | else-kind_at-eq-DIODE w ↦ passed (behind_at a.reltol a.vntol a.sheet.now a.vector.now a.memory.now) c.records-count.result l.i c.loop-i-test.true (sym (other_kind _ _ _ _ _ _ (λ e. w.if-kind_at-eq-DIODE.false (c.kind_at.ensures ∙ e)))) refl ∙ l.invariant.1
+      ],
     )
 
 pub returns : goal.returns

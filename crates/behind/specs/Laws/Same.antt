@@ -10,7 +10,6 @@ use Rattle.numbers.specs.Kinds.{diode}
 use Rattle.options.specs.declared.Options.{Options}
 use Rattle.sheet.specs.Record.{kind_at}
 use Rattle.sheet.specs.Check.{records_of}
-use Rattle.behind.specs.declared.Behind.{Behind}
 use Rattle.behind.specs.Behind.{behind_at, first_from, first_in, number_of, behind_number}
 use Rattle.behind.specs.Laws.Quiet.{other_kind}
 
@@ -18,7 +17,7 @@ use Rattle.behind.specs.Laws.Quiet.{other_kind}
 first_same : (f g : ℕ → Bool) → ((i : ℕ) → f i ≡ g i) → (n i : ℕ) → first_from f n i ≡ first_from g n i
 unfolding first_from
 first_same f g h zero i = refl
-first_same f g h (suc n) i = rw (h i, first_same f g h n (i + 1))
+first_same f g h (suc n) i = simp (h, first_same f g h n (i + 1))
 
 module _ (sheet : List ℕ) (x y z : List Float) (same : (i : ℕ) → kind_at sheet i ≡ diode → get_or y i nan ≡ get_or z i nan) where
   at_same : (reltol vntol : Float) (i : ℕ) → behind_at reltol vntol sheet x y i ≡ behind_at reltol vntol sheet x z i
