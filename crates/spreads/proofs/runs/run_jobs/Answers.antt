@@ -45,7 +45,7 @@ pub loop-job-preserved : goal.loop-job-preserved
 loop-job-preserved c = let l = c.loop-job in
     let a = c.args in
     let k = c.run_job-m in
-    turned _ _ _ _ _ _ _ _ _ _ _ _ _ _ _ _ _ _ _ l.job l.vectors _ l.numbers l.places l.passes _ l.invariant c.loop-job-test.true c.requires.0 k.auto.1.1.1.1.1.1.1.0 k.auto.1.1.1.1.1.1.1.1.0 k.auto.1.1.1.1.1.1.1.1.1.0 k.auto.1.1.1.1.1.1.1.1.1.1.0 k.auto.1.1.1.1.1.1.1.1.1.1.1.0 k.ensures
+    turned _ _ _ _ _ _ _ _ _ _ _ _ _ _ _ _ _ _ _ l.job l.vectors _ l.numbers l.places l.passes _ l.invariant c.loop-job-test.true c.requires.0 k.auto.base k.auto.system k.auto.elimination k.auto.memory k.auto.vectors k.ensures
 
 pub returns : goal.returns
 returns c = let l = c.loop-job in
