@@ -25,8 +25,8 @@ pub returns-then-k-ne0 : goal.returns-then-k-ne0
 returns-then-k-ne0 c =
     let a = c.args in
     let b : Batch =
-      batch_of a.o a.z.jobs a.z.nodes a.z.sources a.z.unknown a.sheets.now a.points.now (scratch_of a.base.now a.system.now a.elimination.now a.memory.now)
-      (results_of a.vectors.now a.numbers.now a.places.now a.passes.now a.counts.now a.plus.now a.minus.now)
+    batch_of a.o a.z.jobs a.z.nodes a.z.sources a.z.unknown a.sheets.now a.points.now (scratch_of a.base.now a.system.now a.elimination.now a.memory.now)
+    (results_of a.vectors.now a.numbers.now a.places.now a.passes.now a.counts.now a.plus.now a.minus.now)
     in
     record {
       all = call_refused b _ (c.refusal-k.ensures ∙ ap (call_refusal a.o) c.requires) c.if-k-ne0.true;
@@ -94,8 +94,8 @@ pub returns : goal.returns
 returns c =
     let a = c.args in
     let b : Batch =
-      batch_of a.o a.z.jobs a.z.nodes a.z.sources a.z.unknown a.sheets.now a.points.now (scratch_of a.base.now a.system.now a.elimination.now a.memory.now)
-      (results_of a.vectors.now a.numbers.now a.places.now a.passes.now a.counts.now a.plus.now a.minus.now)
+    batch_of a.o a.z.jobs a.z.nodes a.z.sources a.z.unknown a.sheets.now a.points.now (scratch_of a.base.now a.system.now a.elimination.now a.memory.now)
+    (results_of a.vectors.now a.numbers.now a.places.now a.passes.now a.counts.now a.plus.now a.minus.now)
     in
     let e : batch_refusal b ≡ 0 = sym (ap (call_refusal a.o) c.requires) ∙ (sym c.refusal-k.ensures ∙ c.if-k-ne0.false) in
     let k = ok _ _ _ _ c.refusal-k.ensures c.if-k-ne0.false c.requires in

@@ -2,7 +2,6 @@
 use mathlib.Core.Path.{ap, ◌∙◌}
 use borrow.Author.Tests.{eq-eqb, ne_eqb}
 use Rattle.sound.specs.Causes.{heard, cause_of}
-use borrow.Author.Rules.{rules}
 use Rattle.sound.proofs.causes.find.Goals as goal
 
 pub returns-then-m : goal.returns-then-m

@@ -3,7 +3,6 @@ use mathlib.Core.Path.{sym, ◌∙◌}
 use borrow.Author.Tests.{eq-eqb, ne_eqb}
 use Rattle.spreads.specs.Laws.Refusals.{call_fine}
 use Rattle.sound.specs.Refusals.{sound_refusal}
-use borrow.Author.Rules.{rules}
 use Rattle.sound.proofs.refusals.refusal.Goals as goal
 
 pub returns-then-k-ne0 : goal.returns-then-k-ne0

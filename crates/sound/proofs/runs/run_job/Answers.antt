@@ -2,7 +2,6 @@
 use Prim.Native.Nat.{◌+◌, ◌-◌, ◌*◌}
 use native.Mathlib.Omega.{arith}
 use Rattle.sound.proofs.Parts.{placed}
-use borrow.Author.Rules.{rules}
 use Rattle.sound.proofs.runs.run_job.Goals as goal
 
 pub returns : goal.returns

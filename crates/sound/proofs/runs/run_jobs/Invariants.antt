@@ -9,7 +9,6 @@ use Rattle.spreads.specs.Runs.{table_of, table_after, job_at}
 use Rattle.spreads.specs.Spreads.{number_at}
 use Rattle.sound.specs.Causes.{with_causes}
 use Rattle.sound.proofs.Turn.{Turn, begun, turned}
-use borrow.Author.Rules.{rules}
 use Rattle.sound.proofs.runs.run_jobs.Given as goal
 
 abbrev pub invariant-loop-job : goal.invariant-loop-job
