@@ -1,3 +1,4 @@
+-- What does not differ from itself is no NaN.
 use Rattle.functions.specs.Laws.Fields.{no_nan_of}
 use Rattle.jobs.proofs.lent.same.Goals as goal
 
