@@ -1,5 +1,5 @@
 -- A pass from its parts, over plain variables: what each call ensures is one hypothesis, and the definitions of stamping and solving stay shut. Assumes nothing.
-use Prim.Native.Nat.{ℕ, ◌+◌, ◌*◌, ◌≤◌}
+use Prim.Native.Nat.{ℕ}
 use mathlib.Core.Path.{◌≡◌, refl, sym, ap, ◌∙◌, subst}
 use mathlib.Core.Bool.{Bool, true, false, cond}
 use mathlib.Core.List.{List, []}
@@ -10,8 +10,6 @@ use native.Mathlib.Omega.{arith}
 use lib.Dec.{eqb, ltb}
 use Rattle.loops.specs.Laws.Loop.{copied_same}
 use Rattle.loops.specs.Loop.{copied}
-use Rattle.sheet.specs.Check.{records_of}
-use Rattle.numbers.specs.Limits.{most_records}
 use Rattle.convergence.specs.declared.Convergence.{Convergence}
 use Rattle.convergence.specs.Convergence.{convergence_of}
 use Rattle.steps.specs.declared.Counters.{Counters}

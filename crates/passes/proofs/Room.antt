@@ -1,5 +1,5 @@
 -- A matrix as long as the base holds what is stamped before the diodes. Assumes nothing.
-use Prim.Native.Nat.{ℕ, ◌+◌, ◌*◌, ◌<◌}
+use Prim.Native.Nat.{ℕ, ◌+◌, ◌<◌}
 use mathlib.Core.Path.{◌≡◌}
 use mathlib.Core.List.{List}
 use lib.ListN.{length}
@@ -8,7 +8,7 @@ use native.Mathlib.Omega.{arith}
 use native.Mathlib.Nat.{mul-pos}
 use Rattle.groups.specs.Listed.{Listed}
 use Rattle.passes.specs.Sized.{Sized}
-use Rattle.passes.specs.Again.{bare, Holder}
+use Rattle.passes.specs.Again.{Holder}
 
 pub holding : (sheet places : List ℕ) (n b h : ℕ) {a e s : ℕ} → Sized n a b e s → Listed sheet (length places) places → h ≡ b → Holder sheet places b h
 holding sheet places n b h z l e =

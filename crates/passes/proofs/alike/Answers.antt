@@ -1,6 +1,5 @@
 -- `passes::alike` meets its contract: by its test. Assumes nothing.
 use Rattle.passes.specs.Again.{alike}
-use borrow.Author.Rules.{rules}
 use Rattle.passes.proofs.alike.Goals as goal
 
 pub returns-then-c : goal.returns-then-c

@@ -1,7 +1,6 @@
 -- `passes::dc_done` meets its contract: with a row or without. Assumes nothing.
 use borrow.Author.Tests.{eq-eqb, ne_eqb}
 use Rattle.passes.specs.Done.{dc_done}
-use borrow.Author.Rules.{rules}
 use Rattle.passes.proofs.dc_done.Goals as goal
 
 pub returns-then-d-eq-TRANSIENT : goal.returns-then-d-eq-TRANSIENT

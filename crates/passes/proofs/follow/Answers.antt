@@ -14,7 +14,6 @@ use Rattle.steps.specs.Phases.{dc_phase}
 use Rattle.machine.specs.State.{Written, written_of}
 use Rattle.machine.specs.Machine.{accepts, accepted_by}
 use Rattle.passes.specs.Done.{dc_done, step_done, aftermath_of, aftermath}
-use borrow.Author.Rules.{rules}
 use Rattle.passes.proofs.follow.Goals as goal
 
 module _ (j : Job) (r : Report) (c d : Counters) (a a' v rows rows' : List Float) (e : a' ≡ accepted_by r c a v) where

@@ -3,14 +3,13 @@
 use Prim.Native.Nat.{ℕ, ◌≤◌}
 use mathlib.Core.Path.{◌≡◌, refl, sym, ◌∙◌}
 use mathlib.Core.Bool.{Bool, true, false, ◌&&◌, false≢true, and-eq-true_iff as both}
-use borrow.Author.Tests.{eqb-true, leb-true, not-true, not-false}
+use borrow.Author.Tests.{eqb-true, leb-true}
 use lib.Dec.{eqb, leb}
 use lib.Seq.{length-take-le}
 use native.Mathlib.Omega.{arith}
 use Rattle.groups.specs.Laws.Listed.{list_bounded, list_lists, listed_front}
 use Rattle.passes.specs.Laws.Sized.{sized}
 use Rattle.passes.specs.Run.{run_on}
-use borrow.Author.Rules.{rules}
 use Rattle.passes.proofs.run.Goals as goal
 
 within : (n n₀ d : ℕ) → d ≤ n₀ → n ≡ n₀ → d ≤ n

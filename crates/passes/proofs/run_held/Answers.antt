@@ -7,7 +7,6 @@ use lib.Seq.{length-take-le}
 use lib.Ieee.{Float}
 use native.Mathlib.Omega.{arith}
 use Rattle.passes.proofs.Room.{holding}
-use borrow.Author.Rules.{rules}
 use Rattle.passes.proofs.run_held.Goals as goal
 
 part : (a : List Float) (s : ℕ) → s ≤ 272 → length a ≡ 272 → length (take s a) ≡ s

@@ -9,7 +9,6 @@ use lib.Ieee.{Float}
 use native.Mathlib.Omega.{arith}
 use native.Mathlib.Nat.{mul-le-mul}
 use Rattle.passes.proofs.Room.{holding}
-use borrow.Author.Rules.{rules}
 use Rattle.passes.proofs.run_large.Goals as goal
 
 largest : (n s : ℕ) → n ≤ 48 → s ≡ n * (n + 1) → s ≤ 2352

@@ -1,7 +1,7 @@
 -- `passes::run_passes` meets its contract: what is left to run from each turn is the whole, and what the last pass left is what the next would make. Assumes nothing.
 use Prim.Native.Nat.{ℕ, ◌<◌, ◌-◌}
 use mathlib.Core.Path.{◌≡◌, refl, sym, ap, ◌∙◌, subst}
-use mathlib.Core.Bool.{Bool, true, false, not, ◌&&◌, false≢true, and-eq-true_iff as both}
+use mathlib.Core.Bool.{Bool, true, ◌&&◌, false≢true, and-eq-true_iff as both}
 use mathlib.Core.List.{List}
 use lib.ListN.{length}
 use lib.Ieee.{Float}
@@ -9,15 +9,14 @@ use native.Mathlib.Omega.{arith}
 use Rattle.steps.specs.declared.Counters.{Counters}
 use Rattle.steps.specs.declared.Job.{Job}
 use Rattle.steps.specs.Counters.{going}
-use Rattle.machine.specs.State.{State, buffers_of, state_of}
+use Rattle.machine.specs.State.{State}
 use Rattle.machine.specs.Machine.{pass, run_for}
 use Rattle.machine.specs.Laws.Budget.{run_stopped, run_step}
 use Rattle.passes.specs.Laws.Sized.{resized}
-use Rattle.passes.specs.Attempt.{Circuit, circuit_of, attempt_of}
+use Rattle.passes.specs.Attempt.{circuit_of, attempt_of}
 use Rattle.passes.specs.Again.{alike, Holder, Holds, Usable}
 use Rattle.passes.proofs.Again.{later, next_pass}
 use Rattle.passes.proofs.Joins.{takes_over, pass_joins}
-use borrow.Author.Rules.{rules}
 use Rattle.passes.proofs.run_passes.Invariants.{Ready}
 use Rattle.passes.proofs.run_passes.Goals as goal
 

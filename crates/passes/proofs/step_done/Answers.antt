@@ -1,7 +1,6 @@
 -- `passes::step_done` meets its contract: accepted or not. Assumes nothing.
 use mathlib.Core.Path.{sym, ◌∙◌}
 use Rattle.passes.specs.Done.{step_done}
-use borrow.Author.Rules.{rules}
 use Rattle.passes.proofs.step_done.Goals as goal
 
 pub returns-then-accepts : goal.returns-then-accepts

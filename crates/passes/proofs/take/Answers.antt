@@ -1,6 +1,5 @@
 -- `passes::take` meets its contract: without inductors nothing would be taken; else by whether the vector is taken. Assumes nothing.
 use mathlib.Core.Path.{sym, ◌∙◌}
-use borrow.Author.Rules.{rules}
 use Rattle.loops.specs.Laws.Loop.{either_same}
 use Rattle.groups.specs.Laws.Storage.{nothing_taken}
 use lib.ListN.{length}

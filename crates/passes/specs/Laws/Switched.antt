@@ -17,8 +17,8 @@ use Rattle.groups.specs.Stamping.{linear_of, stamp_of}
 use Rattle.behind.specs.Behind.{behind_number}
 use Rattle.steps.specs.declared.Counters.{Counters}
 use Rattle.steps.specs.Laws.Switched.{with_catchup}
-use Rattle.machine.specs.State.{Buffers, Attempted}
-use Rattle.passes.specs.Attempt.{Circuit, circuit_of, pass_of, solved_from, attempted_of, attempt_of}
+use Rattle.machine.specs.State.{Buffers}
+use Rattle.passes.specs.Attempt.{Circuit, circuit_of, pass_of, attempt_of}
 
 module _ (o : Options) (w v : ℕ) where
   -- the options with the switch at w, and at v

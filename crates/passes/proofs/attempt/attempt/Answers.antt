@@ -2,7 +2,6 @@
 use mathlib.Core.Path.{sym, ap, ◌∙◌}
 use mathlib.Core.Bool.{not}
 use borrow.Author.Tests.{eq-eqb}
-use borrow.Author.Rules.{rules}
 use Rattle.steps.specs.Control.{solved}
 use Rattle.steps.specs.Laws.Waited.{waited_off, waited_solved}
 use Rattle.passes.proofs.Joins.{waits}

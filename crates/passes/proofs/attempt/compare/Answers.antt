@@ -1,5 +1,4 @@
 -- `passes::attempt::compare` meets its contract: from its two calls. Assumes nothing.
-use borrow.Author.Rules.{rules}
 use Rattle.passes.proofs.attempt.compare.Goals as goal
 
 pub returns : goal.returns

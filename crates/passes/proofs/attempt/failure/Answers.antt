@@ -1,7 +1,6 @@
 -- `passes::attempt::failure` meets its contract: by its test. Assumes nothing.
 use borrow.Author.Tests.{eq-eqb, ne_eqb}
 use Rattle.passes.specs.Again.{failure_of}
-use borrow.Author.Rules.{rules}
 use Rattle.passes.proofs.attempt.failure.Goals as goal
 
 pub returns-then-k-eq-DIODE_CURRENT : goal.returns-then-k-eq-DIODE_CURRENT

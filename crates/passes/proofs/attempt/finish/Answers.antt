@@ -1,11 +1,8 @@
 -- `passes::attempt::finish` meets its contract: by the verdict of the diodes. Assumes nothing.
-use mathlib.Core.Path.{◌≡◌, sym, ap, ◌∙◌}
-use Rattle.steps.specs.declared.Report.{Report}
+use mathlib.Core.Path.{sym, ◌∙◌}
 use Rattle.loops.specs.Laws.Loop.{copied_same}
 use Rattle.groups.specs.Laws.Listed.{listed_whole}
-use Rattle.machine.specs.State.{tried_of}
 use Rattle.passes.proofs.Joins.{finish_failed, finish_solved}
-use borrow.Author.Rules.{rules}
 use Rattle.passes.proofs.attempt.finish.Goals as goal
 
 pub returns-then-k-ne0 : goal.returns-then-k-ne0

@@ -1,6 +1,4 @@
-use mathlib.Core.Path.{◌≡◌, refl}
 use Rattle.passes.proofs.Joins.{renews}
-use borrow.Author.Rules.{rules}
 use Rattle.passes.proofs.attempt.renew_in.Goals as goal
 
 pub returns : goal.returns

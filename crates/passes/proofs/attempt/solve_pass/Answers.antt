@@ -5,16 +5,12 @@ use mathlib.Core.Bool.{Bool, true, false, cond, ◌&&◌, false≢true, and-eq-t
 use mathlib.Core.List.{List}
 use lib.Dec.{eqb}
 use lib.ListN.{length}
-use lib.Ieee.{Float}
-use Rattle.groups.specs.Sources.{driven_of}
 use Rattle.steps.specs.declared.Report.{Report}
 use Rattle.steps.specs.declared.Report.TheVariants.{Diode, Sine}
 use Rattle.numbers.specs.Verdicts.{diode_current}
 use Rattle.steps.specs.Control.{solved}
-use Rattle.machine.specs.State.{tried_of}
 use Rattle.passes.specs.Again.{failure_of, bare, Holder}
 use Rattle.passes.proofs.Joins.{whole_code, unstamped, stamped_first, repeated, leaves}
-use borrow.Author.Rules.{rules}
 use Rattle.passes.proofs.attempt.solve_pass.Goals as goal
 
 unsolved : (k : ℕ) (r : Report) → r ≡ failure_of k → solved r ≡ true → ⊥

@@ -1,9 +1,8 @@
 -- `passes::attempt::stamp_first` meets its contract: what is kept is what would be stamped. Assumes nothing.
-use mathlib.Core.Path.{◌≡◌, sym, ap, ◌∙◌}
+use mathlib.Core.Path.{sym, ap, ◌∙◌}
 use Rattle.groups.specs.Sources.{driven_of}
 use Rattle.loops.specs.Laws.Loop.{copied_same}
 use Rattle.passes.proofs.Joins.{linear_anew}
-use borrow.Author.Rules.{rules}
 use Rattle.passes.proofs.attempt.stamp_first.Goals as goal
 
 pub returns-then-again : goal.returns-then-again
