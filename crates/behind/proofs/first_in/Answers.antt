@@ -1,5 +1,4 @@
 -- `behind::first_in` meets its contract: what is first from the turn's record on is first in all. Assumes nothing.
--- the records from i on, of n in all: the first of them, or the first of the rest
 use Prim.Native.Nat.{ℕ, ◌+◌, ◌-◌, ◌<◌, suc}
 use mathlib.Core.Path.{◌≡◌, refl, sym, ◌∙◌}
 use mathlib.Core.Bool.{Bool, true, false}
@@ -11,6 +10,7 @@ use Rattle.behind.specs.Laws.Quiet.{other_kind}
 use Rattle.behind.proofs.first_in.Goals as goal
 use Rattle.behind.proofs.first_in.Goals.{then-kind_at-eq-DIODE+else-behind_at, else-kind_at-eq-DIODE}
 
+-- the records from i on, of n in all: the first of them, or the first of the rest
 module _ (test : ℕ → Bool) (n i : ℕ) (h : i < n) {b : Bool} (q : b ≡ test i) where
   found : b ≡ true → first_from test (n - i) i ≡ At i
   unfolding first_from

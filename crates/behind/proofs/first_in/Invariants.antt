@@ -1,3 +1,4 @@
+-- What the loop of `behind::first_in` keeps true.
 use Prim.Native.Nat.{◌-◌, ◌≤◌}
 use mathlib.Core.Path.{◌≡◌}
 use Rattle.behind.specs.Behind.{behind_at, first_from, first_in}

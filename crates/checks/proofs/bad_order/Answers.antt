@@ -1,3 +1,4 @@
+-- `checks::bad_order` meets its contract. Assumes nothing.
 use mathlib.Core.Path.{sym}
 use Rattle.checks.specs.Laws.Checks.{order_above, order_below}
 use Rattle.checks.proofs.bad_order.Goals as goal

@@ -1,3 +1,4 @@
+-- `checks::bad_room` meets its contract. Assumes nothing.
 use lib.Dec.{lit<}
 use native.Mathlib.Omega.{arith}
 use native.Mathlib.Nat.{lt_of_le_of_lt, mul-le-mul}

@@ -1,3 +1,4 @@
+-- `checks::check` meets its contract. Assumes nothing.
 use borrow.Author.Tests.{eq-eqb, ne_eqb}
 use Rattle.checks.specs.Checks.{checked_of}
 use Rattle.checks.proofs.check.Goals as goal

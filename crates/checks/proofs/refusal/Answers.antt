@@ -1,3 +1,4 @@
+-- `checks::refusal` meets its contract. Assumes nothing.
 use mathlib.Core.Path.{sym, ◌∙◌}
 use Rattle.checks.specs.Checks.{sizes_refusal}
 use Rattle.checks.specs.Laws.Checks.{order_small}

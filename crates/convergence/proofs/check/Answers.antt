@@ -1,3 +1,4 @@
+-- `convergence::check` meets its contract. Assumes nothing.
 use Rattle.loops.specs.Laws.Loop.{more, done}
 use Rattle.convergence.specs.Convergence.{checked}
 use native.Mathlib.Omega.{arith}

@@ -1,3 +1,4 @@
+-- What the loop of `convergence::check` keeps true.
 use Rattle.loops.specs.Loop.{turns}
 use Rattle.convergence.specs.Convergence.{place_at}
 use Rattle.convergence.specs.declared.Convergence.TheVariants.{Yes}

@@ -1,3 +1,4 @@
+-- `convergence::convergence_check` meets its contract. Assumes nothing.
 use Rattle.convergence.specs.Convergence.{convergence_of}
 use borrow.Author.Tests.{lt-ltb, le-ltb}
 use Rattle.convergence.proofs.convergence_check.Goals as goal

@@ -1,3 +1,4 @@
+-- `convergence::limit` meets its contract. Assumes nothing.
 use Rattle.convergence.specs.Convergence.{limit}
 use Rattle.convergence.proofs.limit.Goals as goal
 

@@ -1,3 +1,4 @@
+-- `convergence::place` meets its contract. Assumes nothing.
 use Rattle.convergence.specs.Convergence.{place}
 use mathlib.Core.Path.{sym, ◌∙◌}
 use Rattle.convergence.proofs.place.Goals as goal

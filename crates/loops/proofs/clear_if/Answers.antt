@@ -1,3 +1,4 @@
+-- `loops::clear_if` meets its contract. Assumes nothing.
 use Rattle.loops.proofs.clear_if.Goals as goal
 
 pub returns-then-yes : goal.returns-then-yes

@@ -1,3 +1,4 @@
+-- What the loop of `loops::copy` keeps true.
 use Prim.Native.Nat.{◌≤◌, min}
 use mathlib.Core.Path.{◌≡◌}
 use lib.ListN.{length}

@@ -1,4 +1,4 @@
--- the first i numbers are v, and the rest stands
+-- `loops::fill` meets its contract. Assumes nothing.
 use mathlib.Core.Path.{refl, ◌∙◌}
 use native.Mathlib.Omega.{arith}
 use borrow.Author.Rules.{rules}

@@ -1,4 +1,4 @@
--- the store and the copied part are the row
+-- `loops::put_row` meets its contract. Assumes nothing.
 use Prim.Native.Nat.{ℕ, suc, ◌+◌, ◌-◌, ◌<◌, ◌≤◌}
 use mathlib.Core.Path.{◌≡◌, refl, sym, ap, ◌∙◌}
 use mathlib.Core.List.{List, ◌++◌, append_assoc}
@@ -11,6 +11,7 @@ use Rattle.loops.specs.Loop.{copied, row_at, row_put}
 use Rattle.loops.specs.Laws.Loop.{copied_same, row_fits_lem, row_too_long, row_put-length}
 use Rattle.loops.proofs.put_row.Goals as goal
 
+-- the store and the copied part are the row
 module _ (rows v y : List Float) (place a e : ℕ) (t : Float) (p : a ≡ place + 1) (q : e ≡ a + length v) (h : e ≤ length rows) (s : y ≡ copied v (take (e - a) (drop a (set rows place t)))) where
   laid : take a (set rows place t) ++ (y ++ drop (e - a) (drop a (set rows place t))) ≡ row_put place t v rows
   unfolding row_at

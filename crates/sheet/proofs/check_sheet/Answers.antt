@@ -1,5 +1,4 @@
 -- `sheet::check_sheet` meets its contract: what is left of the check from record i on is the whole, and the first record that shares its number is not yet passed. Assumes nothing.
--- record i of so many, which is at or before the first that shares its number: it shares one exactly if it is that record
 use Prim.Native.Nat.{ℕ, ◌≤◌, ◌<◌, ◌+◌, ◌-◌, suc}
 use mathlib.Core.Path.{◌≡◌, refl, sym, ◌∙◌, ap, subst}
 use mathlib.Core.List.{List}
@@ -20,6 +19,7 @@ use Rattle.sheet.specs.declared.Decoded.TheVariants.{Good, Refused}
 use Rattle.sheet.specs.declared.Checked.TheVariants.{Faulty}
 use Rattle.sheet.proofs.check_sheet.Goals as goal
 
+-- record i of so many, which is at or before the first that shares its number: it shares one exactly if it is that record
 own_at : (s : List ℕ) (count p i : ℕ) → FirstShared s count p → i < count → i ≤ p → (b : Bool) → eqb i p ≡ b → not b ≡ alone s i
 own_at s count p i f h l true e = let q = eqb-true i p e in sym (subst (λ (k : ℕ). alone s k ≡ false) (sym q) (f.there (subst (λ (k : ℕ). k < count) q h)))
 own_at s count p i f h l false e = sym (f.before i (omega (arith, l, eqb-false i p e)) h)

@@ -1,3 +1,4 @@
+-- What the loop of `sheet::check_sheet` keeps true.
 use Prim.Native.Nat.{◌≤◌, ◌-◌}
 use mathlib.Core.Path.{◌≡◌}
 use Rattle.sheet.specs.Check.{check_from, check_of}

@@ -1,3 +1,4 @@
+-- `sheet::decode` meets its contract. Assumes nothing.
 use mathlib.Core.Path.{◌∙◌}
 use Rattle.sheet.specs.Laws.Record.{decode_own}
 use Rattle.sheet.proofs.decode.Goals as goal

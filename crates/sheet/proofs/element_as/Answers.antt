@@ -1,3 +1,4 @@
+-- `sheet::element_as` meets its contract. Assumes nothing.
 use mathlib.Core.Path.{ap, ◌∙◌}
 use Rattle.sheet.specs.Record.{decode_as}
 use Rattle.sheet.proofs.element_as.Goals as goal

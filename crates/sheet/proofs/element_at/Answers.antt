@@ -1,3 +1,4 @@
+-- `sheet::element_at` meets its contract. Assumes nothing.
 use mathlib.Core.Path.{ap, ◌∙◌}
 use Rattle.sheet.specs.Record.{decode_of}
 use Rattle.sheet.proofs.element_at.Goals as goal

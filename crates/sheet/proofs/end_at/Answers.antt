@@ -1,3 +1,4 @@
+-- `sheet::end_at` meets its contract: what is left is shorter than a record, or nothing. Assumes nothing.
 use Rattle.std.proofs.Common.{arith, ◌≡◌, ◌∙◌, sym, ℕ, ◌*◌, ◌-◌, ◌/◌, ◌<◌, List, [], length, take, drop}
 use lib.ListN.{length-drop, drop_of_length-le}
 use lib.Seq.{take_all, take-nil}

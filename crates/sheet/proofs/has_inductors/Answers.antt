@@ -1,5 +1,4 @@
 -- `sheet::has_inductors` meets its contract: the records passed have been asked, each by its first byte. Assumes nothing.
--- one record more
 use borrow.Author.Rules.{rules}
 use Prim.Native.Nat.{ℕ, ◌+◌, ◌*◌, ◌/◌, ◌<◌}
 use mathlib.Core.Path.{◌≡◌, refl, sym, ap, ◌∙◌}
@@ -15,6 +14,7 @@ use Rattle.sheet.specs.Laws.Record.{first_byte}
 use Rattle.sheet.specs.Sharing.{inductor_among}
 use Rattle.sheet.proofs.has_inductors.Goals as goal
 
+-- one record more
 asked : (sheet : List ℕ) (i k : ℕ) (found : Bool) → k ≡ kind_at sheet i → found ≡ inductor_among sheet i → (found || eqb k inductor) ≡ inductor_among sheet (i + 1)
 unfolding inductor_among
 asked sheet i k found e f = rw (add-one i, e, f)

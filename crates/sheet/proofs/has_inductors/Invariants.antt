@@ -1,3 +1,4 @@
+-- What the loop of `sheet::has_inductors` keeps true.
 use Prim.Native.Nat.{◌≤◌}
 use mathlib.Core.Path.{◌≡◌}
 use mathlib.Core.Bool.{Bool}

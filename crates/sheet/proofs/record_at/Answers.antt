@@ -1,3 +1,4 @@
+-- `sheet::record_at` meets its contract: a whole record has its 40 bytes. Assumes nothing.
 use Rattle.sheet.specs.Record.{record_at}
 use Rattle.std.proofs.Common.{arith, ◌≡◌, ◌+◌, ◌*◌, ◌-◌}
 use Rattle.sheet.proofs.record_at.Goals as goal

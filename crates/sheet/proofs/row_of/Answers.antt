@@ -1,3 +1,4 @@
+-- `sheet::row_of` meets its contract. Assumes nothing.
 use borrow.Author.Tests.{lt-ltb, le-ltb}
 use Rattle.sheet.specs.Row.{row_of}
 use Rattle.sheet.proofs.row_of.Goals as goal

@@ -1,3 +1,4 @@
+-- `models::diode::critical_voltage` meets its contract. Assumes nothing.
 use Rattle.models.specs.Diode.{critical}
 use Rattle.models.proofs.diode.critical_voltage.Goals as goal
 

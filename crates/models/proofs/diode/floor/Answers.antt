@@ -1,3 +1,4 @@
+-- `models::diode::floor` meets its contract. Assumes nothing.
 use Rattle.models.specs.Diode.{floored}
 use Rattle.models.proofs.diode.floor.Goals as goal
 

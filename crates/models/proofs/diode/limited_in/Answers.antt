@@ -1,3 +1,4 @@
+-- `models::diode::limited_in` meets its contract. Assumes nothing.
 use Rattle.models.specs.Situation.{limited_in}
 use Rattle.models.proofs.diode.limited_in.Goals as goal
 

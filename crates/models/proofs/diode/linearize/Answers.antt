@@ -1,3 +1,4 @@
+-- `models::diode::linearize` meets its contract. Assumes nothing.
 use Rattle.models.specs.Diode.{linearized}
 use Rattle.models.proofs.diode.linearize.Goals as goal
 

@@ -1,3 +1,4 @@
+-- `models::diode::linearize_at` meets its contract. Assumes nothing.
 use Rattle.models.proofs.Laws.Situations.{limited_chosen}
 use Rattle.models.proofs.diode.linearize_at.Goals as goal
 

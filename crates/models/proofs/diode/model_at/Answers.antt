@@ -1,3 +1,4 @@
+-- `models::diode::model_at` meets its contract. Assumes nothing.
 use Rattle.models.specs.Diode.{model_at}
 use Rattle.models.proofs.diode.model_at.Goals as goal
 

@@ -1,3 +1,4 @@
+-- `models::diode::situation_of` meets its contract. Assumes nothing.
 use Rattle.models.specs.Situation.{situation_of}
 use Rattle.models.proofs.diode.situation_of.Goals as goal
 

@@ -1,3 +1,4 @@
+-- `models::sine::evaluate` meets its contract. Assumes nothing.
 use Rattle.models.specs.Sine.{sine_at, level_of}
 use Rattle.models.proofs.sine.evaluate.Goals as goal
 

@@ -1,3 +1,4 @@
+-- `models::vpwl::between` meets its contract. Assumes nothing.
 use borrow.Author.Rules.{rules}
 use Prim.Native.Nat.{◌+◌, ◌-◌}
 use mathlib.Core.Path.{sym, ◌∙◌}

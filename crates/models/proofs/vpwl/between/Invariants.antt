@@ -1,3 +1,4 @@
+-- What the loop of `models::vpwl::between` keeps true.
 use Prim.Native.Nat.{◌+◌, ◌-◌, ◌≤◌}
 use mathlib.Core.Path.{◌≡◌}
 use Rattle.num.specs.Floats.{nought}

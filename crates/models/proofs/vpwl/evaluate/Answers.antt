@@ -1,3 +1,4 @@
+-- `models::vpwl::evaluate` meets its contract. Assumes nothing.
 use native.Mathlib.Omega.{arith}
 use Rattle.models.specs.Vpwl.{pattern_at, points_from, level_at}
 use Rattle.models.proofs.Points.{some_points}

@@ -1,3 +1,4 @@
+-- `models::vpwl::level_on` meets its contract. Assumes nothing.
 use Rattle.models.specs.Vpwl.{level_on}
 use Rattle.models.proofs.vpwl.level_on.Goals as goal
 

@@ -1,3 +1,4 @@
+-- `models::vpwl::past_end` meets its contract. Assumes nothing.
 use Rattle.models.proofs.vpwl.past_end.Goals as goal
 
 pub returns-then-repeat : goal.returns-then-repeat

@@ -1,3 +1,4 @@
+-- `models::vpwl::point_at` meets its contract. Assumes nothing.
 use mathlib.Core.Path.{sym}
 use native.Mathlib.Omega.{arith}
 use Rattle.models.specs.Vpwl.{point_at}

@@ -1,3 +1,4 @@
+-- `sheet::range::element_fault` meets its contract. Assumes nothing.
 use Rattle.sheet.specs.Range.{element_fault}
 use Rattle.sheet.proofs.range.element_fault.Goals as goal
 

@@ -1,3 +1,4 @@
+-- `sheet::range::nodes_fit` meets its contract. Assumes nothing.
 use Rattle.sheet.specs.Range.{nodes_fit, nodes_of}
 use Rattle.sheet.proofs.range.nodes_fit.Goals as goal
 

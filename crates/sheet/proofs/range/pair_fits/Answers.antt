@@ -1,3 +1,4 @@
+-- `sheet::range::pair_fits` meets its contract. Assumes nothing.
 use mathlib.Core.Bool.{and-true}
 use Rattle.sheet.proofs.range.pair_fits.Goals as goal
 

@@ -1,9 +1,10 @@
--- two pairs are four
+-- `sheet::range::pairs_fit` meets its contract. Assumes nothing.
 use mathlib.Core.Path.{◌≡◌, ◌∙◌}
 use mathlib.Core.Bool.{Bool, true, ◌&&◌, and_assoc}
 use Rattle.sheet.specs.Range.{node_below}
 use Rattle.sheet.proofs.range.pairs_fit.Goals as goal
 
+-- two pairs are four
 four : {r s : Bool} (a b x y : Bool) → r ≡ (a && (b && true)) → s ≡ (x && (y && true)) → (r && s) ≡ (a && (b && (x && (y && true))))
 four a b x y p q = rw (p, q) (and_assoc a (b && true) _ ∙ rw (and_assoc b true))
 

@@ -1,4 +1,4 @@
--- a kind without points
+-- `sheet::range::points_fit` meets its contract. Assumes nothing.
 use mathlib.Core.Path.{◌≡◌, refl, sym}
 use borrow.Author.Tests.{le-leb}
 use Prim.Native.Nat.{ℕ}
@@ -11,6 +11,7 @@ use Rattle.sheet.specs.declared.Element.TheVariants.{R, I, «V», D, Isin, Vsin,
 use borrow.Author.Rules.{rules}
 use Rattle.sheet.proofs.range.points_fit.Goals as goal
 
+-- a kind without points
 others : (e : Element) → ((p q : NodeId) (x y : Float) (f k : ℕ) (s : SourceId) → e ≡ Vpwl p q x y f k s → ⊥) → points_of e ≡ 0
 unfolding points_of
 others (R p q x) h = refl

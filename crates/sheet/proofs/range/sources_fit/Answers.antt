@@ -1,4 +1,4 @@
--- a kind without a source number
+-- `sheet::range::sources_fit` meets its contract. Assumes nothing.
 use mathlib.Core.Path.{◌≡◌, refl}
 use mathlib.Core.List.{[]}
 use Prim.Native.Nat.{ℕ}
@@ -10,6 +10,7 @@ use Rattle.sheet.specs.declared.Element.{Element}
 use Rattle.sheet.specs.declared.Element.TheVariants.{R, I, «V», D, Isin, Vsin, Vpwl, C, Vcvs, Vccs, L}
 use Rattle.sheet.proofs.range.sources_fit.Goals as goal
 
+-- a kind without a source number
 others : (e : Element) → ((p q : NodeId) (x : Float) (s : SourceId) → e ≡ «V» p q x s → ⊥) → ((p q : NodeId) (x y z : Float) (s : SourceId) → e ≡ Vsin p q x y z s → ⊥)
     → ((p q : NodeId) (x y : Float) (f k : ℕ) (s : SourceId) → e ≡ Vpwl p q x y f k s → ⊥) → ((p q cp cq : NodeId) (x : Float) (s : SourceId) → e ≡ Vcvs p q cp cq x s → ⊥)
     → ((p q : NodeId) (x : Float) (s : SourceId) → e ≡ L p q x s → ⊥) → sources_of e ≡ []

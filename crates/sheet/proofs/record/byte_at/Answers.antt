@@ -1,3 +1,4 @@
+-- `sheet::record::byte_at` meets its contract. Assumes nothing.
 use mathlib.Core.Path.{sym}
 use lib.ListN.{get_or-eq_default}
 use Rattle.sheet.proofs.record.byte_at.Goals as goal

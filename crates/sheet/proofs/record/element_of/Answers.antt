@@ -1,3 +1,4 @@
+-- `sheet::record::element_of` meets its contract. Assumes nothing.
 use mathlib.Core.Path.{ap}
 use Rattle.sheet.specs.declared.Decoded.TheVariants.{Good}
 use borrow.Author.Tests.{ne_eqb}

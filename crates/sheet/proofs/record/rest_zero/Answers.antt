@@ -1,3 +1,4 @@
+-- `sheet::record::rest_zero` meets its contract. Assumes nothing.
 use Rattle.sheet.specs.Record.{rest_zero}
 use Rattle.sheet.proofs.Zeros.{zero16, zero32, zero64}
 use Rattle.sheet.proofs.record.rest_zero.Goals as goal

@@ -1,3 +1,4 @@
+-- `sheet::record::uses_of` meets its contract. Assumes nothing.
 use borrow.Author.Tests.{ne_eqb}
 use Rattle.sheet.specs.Record.{uses_of}
 use Rattle.sheet.proofs.record.uses_of.Goals as goal

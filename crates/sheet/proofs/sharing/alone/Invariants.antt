@@ -1,3 +1,4 @@
+-- What the loop of `sheet::sharing::alone` keeps true.
 use Prim.Native.Nat.{◌≤◌}
 use mathlib.Core.Path.{◌≡◌}
 use Rattle.sheet.specs.Sharing.{none_shares}

@@ -1,3 +1,4 @@
+-- What the loop of `sheet::sharing::first_from` keeps true.
 use Prim.Native.Nat.{ℕ, ◌-◌, ◌≤◌, ◌<◌}
 use mathlib.Core.Path.{◌≡◌}
 use mathlib.Core.Bool.{true}
