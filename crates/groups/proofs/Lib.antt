@@ -1,3 +1,4 @@
+-- What the proofs of the functions share.
 pub mod Tags
 pub mod Walk
 pub mod Numbers

@@ -1,3 +1,4 @@
+-- What the proofs of the functions share.
 pub mod Sizes
 pub mod Search
 pub mod Lanes

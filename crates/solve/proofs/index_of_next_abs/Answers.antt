@@ -1,3 +1,4 @@
+-- `solve::index_of_next_abs` meets its contract. Assumes nothing.
 use native.Mathlib.Omega.{arith}
 use Prim.Native.Nat.{◌+◌, ◌*◌}
 use borrow.Author.Tests.{le-leb, lt-leb, lt-ltb, le-ltb}

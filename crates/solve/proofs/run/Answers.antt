@@ -1,3 +1,4 @@
+-- `solve::run` meets its contract. Assumes nothing.
 use Rattle.solve.specs.Solve.{solution}
 use Rattle.solve.proofs.run.Goals as goal
 

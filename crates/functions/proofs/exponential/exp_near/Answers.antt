@@ -1,5 +1,4 @@
 -- `functions::exponential::exp_near` meets its contract. Assumes nothing.
--- a size of at most 709
 use Rattle.std.proofs.Common.{◌≡◌, ℕ, ◌+◌, ◌-◌, ◌*◌, ◌^◌, ◌<◌, ◌≤◌, Bool, true, false, cond, not, sym, refl, ap, ◌∙◌, subst, le_trans, mul-le-mul_right, arith, lit<, lit≤, w64, Fits}
 use lib.Ieee.{Float, binary64, of_bits, unlike}
 use lib.Ieee.Positive.{num, den, den_pos}
@@ -10,6 +9,7 @@ use Rattle.functions.specs.Exp.{ell, fixed_exp, exp_size, exp_of, ExpRange}
 use Rattle.functions.proofs.Laws.ExpLaw.{is_finite, up_to, down_to, in_range, k_up, k_down, f_small, sum_room}
 use Rattle.functions.proofs.exponential.exp_near.Goals as goal
 
+-- a size of at most 709
 size_lt : (x : Float) → ExpRange x → num x < 2 ^ 21 * den x
 size_lt x r = go (num x) (den x) (den_pos x) (either (sign x) refl)
   where

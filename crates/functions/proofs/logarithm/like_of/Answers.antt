@@ -1,3 +1,4 @@
+-- `functions::logarithm::like_of` meets its contract. Assumes nothing.
 use Rattle.std.proofs.Common.{◌≡◌, Bool, true, false, refl}
 use mathlib.Core.Bool.{beq}
 use Rattle.functions.proofs.logarithm.like_of.Goals as goal

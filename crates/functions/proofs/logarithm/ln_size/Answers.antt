@@ -1,11 +1,11 @@
 -- `functions::logarithm::ln_size` meets its contract. Assumes nothing.
--- L by its halves
 use Rattle.std.proofs.Common.{◌≡◌, ℕ, ◌+◌, ◌-◌, ◌*◌, ◌/◌, ◌%◌, ◌^◌, ◌<◌, ◌≤◌, Bool, true, false, sym, ap, ◌∙◌, subst, le-add_right, lt_of_le_of_lt, mod-eq_of_lt, mul_assoc, sub-add_cancel, arith, pow_pos, pow-add, w64, Fits}
 use native.Mathlib.Nat.{mul-add-div_right}
 use Rattle.functions.specs.Exp.{ell}
 use Rattle.functions.specs.Ln.{ln_size}
 use Rattle.functions.proofs.logarithm.ln_size.Goals as goal
 
+-- L by its halves
 halves : (k t : ℕ) → t ≤ 32 → k * 0xB17217F7 * 2 ^ (32 - t) + k * 0xD1CF79AC / 2 ^ t ≡ k * ell / 2 ^ t
 halves k t h =
     sym (mul-add-div_right (pow_pos t) (k * 0xB17217F7 * 2 ^ (32 - t)) (k * 0xD1CF79AC))

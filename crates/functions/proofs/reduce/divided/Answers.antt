@@ -1,9 +1,9 @@
 -- `functions::reduce::divided` meets its contract. Assumes nothing.
--- the leading digits move up within the word
 use Rattle.std.proofs.Common.{◌≡◌, ℕ, ◌+◌, ◌-◌, ◌*◌, ◌/◌, ◌%◌, ◌^◌, ◌<◌, ◌≤◌, sym, ap, ◌∙◌, subst, le_trans, lt_of_lt_of_le, le_of_lt, mod-eq_of_lt, arith, pow_pos, pow_mono, w64, Fits}
 use Rattle.functions.proofs.Divide as divide
 use Rattle.functions.proofs.reduce.divided.Goals as goal
 
+-- the leading digits move up within the word
 module _ (m start n : ℕ) (least : 2 ^ 61 ≤ m) (most : m < 2 ^ 63) (under : start < m) (short : n ≤ 22) where
   few : 2 ^ n ≤ 2 ^ 22
   few = pow_mono short

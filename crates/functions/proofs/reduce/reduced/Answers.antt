@@ -1,5 +1,4 @@
 -- `functions::reduce::reduced` meets its contract. Assumes nothing.
--- below 1/4
 use Rattle.std.proofs.Common.{◌≡◌, ℕ, ◌+◌, ◌-◌, ◌*◌, ◌^◌, ◌<◌, ◌≤◌, ap, ◌∙◌, lt_of_lt_of_le, add_comm, arith, pow_mono, w64, Fits}
 use Rattle.functions.specs.Words.{size_of}
 use Rattle.functions.specs.Laws.Fields.{with_field}
@@ -12,6 +11,7 @@ quotient : (m field digits k left : ℕ) → 1021 ≤ field → (digits + 2 ^ 52
 quotient m x t k left far divided n d e =
     multiple n d (t + 2 ^ 52) x far (e ∙ ap (λ (a : ℕ). a * d) (with_field x t (omega arith) ∙ ap (λ (a : ℕ). a * 2 ^ (x - 1)) (add_comm (2 ^ 52) t))) ∙ ap (λ (a : ℕ). a * d) divided
 
+-- below 1/4
 pub returns-then-field-lt1021 : goal.returns-then-field-lt1021
 returns-then-field-lt1021 c = λ n d dp e.
     own c.args.m n d c.requires.0 (quarter n d c.args.field c.args.digits dp c.if-field-lt1021.true c.requires.3 e) _ _ _ c.small.ensures.1 (c.small.ensures.0 n d dp e) c.small.ensures.2

@@ -1,5 +1,4 @@
 -- `functions::sines::sin_near` meets its contract. Assumes nothing.
--- the code's test is the definition's
 use Rattle.std.proofs.Common.{◌≡◌, ℕ, ◌*◌, ◌^◌, ◌<◌, ◌≤◌, Bool, true, false, cond, T, ltb, sym, refl, ap, ◌∙◌, subst, not-le_of_lt, ltb→lt, lt-ltb}
 use lib.Ieee.{Float, binary64, to_bits}
 use lib.Ieee.Positive.{num, den, den_pos}
@@ -10,6 +9,7 @@ use Rattle.functions.proofs.Bits.{field_of, digits_of, digits_lt, size_is}
 use Rattle.functions.proofs.Quotients.{quarter}
 use Rattle.functions.proofs.sines.sin_near.Goals as goal
 
+-- the code's test is the definition's
 module _ (c : goal.Start) where
   abbrev x : Float
   x = c.args.x

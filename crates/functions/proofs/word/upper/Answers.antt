@@ -1,9 +1,9 @@
 -- `functions::word::upper` meets its contract. Assumes nothing.
--- a column fits, and so does a column with the upper or lower half of another
 use Rattle.std.proofs.Common.{ℕ, ◌+◌, ◌*◌, ◌/◌, ◌%◌, ◌^◌, ◌≤◌, arith, w64, Fits}
 use Rattle.functions.proofs.Halves.{high, low, column, upper_half}
 use Rattle.functions.proofs.word.upper.Goals as goal
 
+-- a column fits, and so does a column with the upper or lower half of another
 alone : (n : ℕ) → n ≤ 18446744065119617025 → Fits w64 n
 alone n h = omega arith
 

@@ -1,3 +1,4 @@
+-- What the loop of `groups::diodes::stamp_listed` keeps true.
 use mathlib.Core.Path.{◌≡◌}
 use Prim.Native.Nat.{◌≤◌}
 use lib.ListN.{length}

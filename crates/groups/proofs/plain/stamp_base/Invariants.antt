@@ -1,3 +1,4 @@
+-- What the loop of `groups::plain::stamp_base` keeps true.
 use Rattle.groups.specs.Plain.{base_writes}
 use Rattle.groups.proofs.Walk.{Walking}
 use Rattle.groups.proofs.plain.stamp_base.Given as goal

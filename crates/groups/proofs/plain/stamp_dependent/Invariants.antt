@@ -1,3 +1,4 @@
+-- What the loop of `groups::plain::stamp_dependent` keeps true.
 use Rattle.groups.specs.Plain.{dependent_writes}
 use Rattle.groups.proofs.Walk.{Walking}
 use Rattle.groups.proofs.plain.stamp_dependent.Given as goal

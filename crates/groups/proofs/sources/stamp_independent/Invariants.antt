@@ -1,3 +1,4 @@
+-- What the loop of `groups::sources::stamp_independent` keeps true.
 use mathlib.Core.Path.{◌≡◌}
 use Prim.Native.Nat.{◌≤◌}
 use lib.ListN.{length}

@@ -1,3 +1,4 @@
+-- What the loop of `groups::storage::stamp_storage` keeps true.
 use Rattle.groups.specs.Storage.{storage_writes}
 use Rattle.groups.proofs.Walk.{Walking}
 use Rattle.groups.proofs.storage.stamp_storage.Given as goal

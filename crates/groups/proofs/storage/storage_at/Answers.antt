@@ -1,5 +1,4 @@
 -- `groups::storage::storage_at` meets its contract: by the tests on the kind byte; a record of another kind writes nothing. Assumes nothing.
--- the kinds before the capacitor's
 use Prim.Native.Nat.{ℕ, ◌<◌}
 use mathlib.Core.Path.{◌≡◌, sym, ◌∙◌}
 use mathlib.Core.Bool.{Bool, true, and-eq-true_iff as both}
@@ -12,6 +11,7 @@ use Rattle.groups.specs.Storage.{unstored}
 use Rattle.groups.specs.Laws.Storage.{unstored_nothing}
 use Rattle.groups.proofs.storage.storage_at.Goals as goal
 
+-- the kinds before the capacitor's
 earlier : (t : Bool) (k : ℕ) → k < 8 → unstored t k ≡ true
 earlier t k h = rw (ne_eqb k 11 (λ q. omega (arith, h, q)), ne_eqb k 8 (λ q. omega (arith, h, q)))
 

@@ -1,3 +1,4 @@
+-- What the loop of `solve::elimination::clear_below` keeps true.
 use mathlib.Core.Path.{◌≡◌}
 use Prim.Native.Nat.{◌+◌, ◌-◌, ◌≤◌}
 use lib.ListN.{length}

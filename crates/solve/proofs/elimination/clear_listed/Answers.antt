@@ -1,3 +1,4 @@
+-- `solve::elimination::clear_listed` meets its contract. Assumes nothing.
 use mathlib.Core.Path.{refl, ap, ◌∙◌}
 use Prim.Native.Nat.{ℕ, ◌+◌}
 use Rattle.loops.specs.Laws.Loop.{more, done}

@@ -1,3 +1,4 @@
+-- What the loop of `solve::elimination::eliminate` keeps true.
 use mathlib.Core.Path.{◌≡◌}
 use mathlib.Core.Bool.{Bool}
 use mathlib.Core.List.{List}

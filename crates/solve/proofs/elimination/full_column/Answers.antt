@@ -1,3 +1,4 @@
+-- `solve::elimination::full_column` meets its contract. Assumes nothing.
 use Rattle.solve.proofs.Columns.{stops, goes}
 use borrow.Author.Rules.{rules}
 use Rattle.solve.proofs.elimination.full_column.Goals as goal

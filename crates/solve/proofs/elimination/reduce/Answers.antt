@@ -1,3 +1,4 @@
+-- `solve::elimination::reduce` meets its contract. Assumes nothing.
 use Rattle.solve.specs.Solve.{reduced}
 use Rattle.solve.proofs.elimination.reduce.Goals as goal
 

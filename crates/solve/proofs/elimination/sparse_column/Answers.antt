@@ -1,3 +1,4 @@
+-- `solve::elimination::sparse_column` meets its contract. Assumes nothing.
 use Rattle.solve.proofs.Listed.{stops, goes}
 use borrow.Author.Rules.{rules}
 use Rattle.solve.proofs.elimination.sparse_column.Goals as goal

@@ -1,3 +1,4 @@
+-- `solve::elimination::swap_rows` meets its contract. Assumes nothing.
 use mathlib.Core.Path.{sym}
 use native.Mathlib.Omega.{arith}
 use lib.ListN.{length-set}

@@ -1,3 +1,4 @@
+-- `solve::pivot::first_of` meets its contract. Assumes nothing.
 use borrow.Author.Tests.{lt-ltb, le-ltb}
 use Rattle.solve.specs.Inner.{first_of}
 use Rattle.solve.proofs.pivot.first_of.Goals as goal

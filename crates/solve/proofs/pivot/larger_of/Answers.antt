@@ -1,3 +1,4 @@
+-- `solve::pivot::larger_of` meets its contract. Assumes nothing.
 use Rattle.solve.proofs.pivot.larger_of.Goals as goal
 
 pub returns-then-best-size : goal.returns-then-best-size

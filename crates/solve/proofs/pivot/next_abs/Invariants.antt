@@ -1,3 +1,4 @@
+-- What the loop of `solve::pivot::next_abs` keeps true.
 use Prim.Native.Nat.{◌+◌, ◌-◌, ◌≤◌, ◌<◌}
 use Rattle.num.specs.Floats.{nought}
 use Rattle.loops.specs.Loop.{turns}

@@ -1,3 +1,4 @@
+-- `solve::pivot::reach` meets its contract. Assumes nothing.
 use mathlib.Core.Logic.{⊎_elim}
 use native.Mathlib.Nat.{eq-or-lt_of_le}
 use native.Mathlib.Omega.{arith}

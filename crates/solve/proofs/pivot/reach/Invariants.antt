@@ -1,3 +1,4 @@
+-- What the loop of `solve::pivot::reach` keeps true.
 use Prim.Native.Nat.{◌≤◌, ◌<◌}
 use Rattle.solve.specs.Inner.{Empty}
 use Rattle.solve.proofs.pivot.reach.Given as goal

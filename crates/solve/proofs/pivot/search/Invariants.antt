@@ -1,3 +1,4 @@
+-- What the loop of `solve::pivot::search` keeps true.
 use mathlib.Core.Path.{◌≡◌}
 use Prim.Native.Nat.{ℕ, ◌-◌, ◌≤◌, ◌<◌}
 use lib.ListN.{length}

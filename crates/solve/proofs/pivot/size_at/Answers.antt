@@ -1,3 +1,4 @@
+-- `solve::pivot::size_at` meets its contract. Assumes nothing.
 use Rattle.solve.proofs.pivot.size_at.Goals as goal
 
 pub returns : goal.returns

@@ -1,3 +1,4 @@
+-- `solve::pivot::unsigned` meets its contract. Assumes nothing.
 use Rattle.solve.specs.Inner.{unsigned_of}
 use Rattle.solve.proofs.pivot.unsigned.Goals as goal
 

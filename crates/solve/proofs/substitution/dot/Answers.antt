@@ -1,4 +1,4 @@
--- the sum's first term, with the unknown that comes by value
+-- `solve::substitution::dot` meets its contract. Assumes nothing.
 use mathlib.Core.Path.{◌≡◌}
 use mathlib.Core.List.{List}
 use Prim.Native.Nat.{ℕ, ◌+◌}
@@ -11,6 +11,7 @@ use Rattle.solve.specs.Solve.{row_start, add_one}
 use borrow.Author.Rules.{rules}
 use Rattle.solve.proofs.substitution.dot.Goals as goal
 
+-- the sum's first term, with the unknown that comes by value
 first-term : (n i start : ℕ) (m x : List Float) (next : Float) → start ≡ row_start n i → next ≡ «at» x (i + 1) → add binary64 nought (mul binary64 («at» m (start + (i + 1))) next) ≡ turns 1 (add_one (row_start n) m x i) nought
 first-term n i start m x next e h = rw (e, h, add-zero (i + 1))
 

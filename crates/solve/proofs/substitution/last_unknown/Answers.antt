@@ -1,3 +1,4 @@
+-- `solve::substitution::last_unknown` meets its contract. Assumes nothing.
 use mathlib.Core.Path.{sym, ◌∙◌}
 use Rattle.solve.specs.Solve.{last_unknown}
 use Rattle.solve.proofs.substitution.last_unknown.Goals as goal

@@ -1,3 +1,4 @@
+-- `solve::substitution::rest` meets its contract. Assumes nothing.
 use Rattle.loops.specs.Laws.Loop.{more, done}
 use Rattle.solve.specs.Solve.{dot}
 use borrow.Author.Rules.{rules}

@@ -1,3 +1,4 @@
+-- `solve::substitution::sparse_rest` meets its contract. Assumes nothing.
 use mathlib.Core.Path.{sym, ◌∙◌}
 use Rattle.solve.specs.Solve.{row_start}
 use Rattle.solve.proofs.Terms.{four_added, four_skipped}

@@ -1,3 +1,4 @@
+-- What the loop of `solve::substitution::sparse_rest` keeps true.
 use mathlib.Core.Path.{◌≡◌}
 use Prim.Native.Nat.{◌+◌, ◌-◌, ◌≤◌}
 use Rattle.num.specs.Floats.{nought}

@@ -1,3 +1,4 @@
+-- What the loop of `solve::substitution::substitute` keeps true.
 use mathlib.Core.Path.{◌≡◌}
 use mathlib.Core.Bool.{true}
 use Prim.Native.Nat.{◌-◌, ◌≤◌, ◌<◌}

@@ -1,3 +1,4 @@
+-- `solve::substitution::unknown` meets its contract. Assumes nothing.
 use Rattle.solve.specs.Solve.{unknown}
 use Rattle.solve.proofs.substitution.unknown.Goals as goal
 

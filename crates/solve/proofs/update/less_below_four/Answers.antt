@@ -1,3 +1,4 @@
+-- `solve::update::less_below_four` meets its contract. Assumes nothing.
 use Prim.Native.Nat.{◌-◌}
 use native.Mathlib.Omega.{arith}
 use Rattle.solve.specs.Laws.Entries.{less_join}

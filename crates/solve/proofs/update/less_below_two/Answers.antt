@@ -1,3 +1,4 @@
+-- `solve::update::less_below_two` meets its contract. Assumes nothing.
 use mathlib.Core.Path.{◌≡◌}
 use native.Mathlib.Omega.{arith}
 use Rattle.solve.specs.Solve.{less_scaled}

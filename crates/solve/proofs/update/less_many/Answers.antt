@@ -1,3 +1,4 @@
+-- `solve::update::less_many` meets its contract. Assumes nothing.
 use Rattle.loops.specs.Laws.Loop.{more, done}
 use Rattle.solve.specs.Solve.{less_scaled}
 use borrow.Author.Rules.{rules}

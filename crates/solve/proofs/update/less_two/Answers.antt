@@ -1,3 +1,4 @@
+-- `solve::update::less_two` meets its contract. Assumes nothing.
 use mathlib.Core.Path.{refl}
 use Rattle.solve.specs.Laws.Entries.{less_join}
 use Rattle.solve.proofs.update.less_two.Goals as goal
