@@ -1,9 +1,7 @@
--- What is proved of a call. Read Demand first.
+-- What is proved of a call. Read proofs/Laws/Demand first.
 pub mod Engine
 pub mod Lengths
 pub mod Promises
 pub mod NoSine
-pub mod Demand
 pub mod Numbers
-pub mod CaughtUp
 pub mod Inductors

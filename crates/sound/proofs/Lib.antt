@@ -2,3 +2,4 @@ pub mod Parts
 pub mod Turn
 pub mod Sums
 pub mod Whole
+pub mod Laws

@@ -12,12 +12,12 @@ use Rattle.tally.specs.Laws.Same.{counts_same, totals_same}
 use Rattle.spreads.specs.Runs.{Table, table_of, table_after}
 use Rattle.spreads.specs.Spreads.{number_at, value_at}
 use Rattle.spreads.specs.Laws.Refusals.{CallFine}
-use Rattle.spreads.specs.Laws.Jobs.{value_back, value_sound}
+use Rattle.spreads.proofs.Laws.Jobs.{value_back, value_sound}
 use Rattle.sound.specs.declared.reports.Reports.{Reports}
 use Rattle.sound.specs.declared.Soundings.TheVariants.{Done}
 use Rattle.sound.specs.Reports.{summed_of, reports_of, both_over}
 use Rattle.sound.specs.Sound.{results_of, Call, batch_in, lengths, job_of, caused_of, sound_result_of, done_of, ran_left}
-use Rattle.sound.specs.Laws.Causes.{sound_settled}
+use Rattle.sound.proofs.Laws.Causes.{sound_settled}
 
 module _ (c : Call) (v : List Float) (ns cs ps qs rest : List ℕ) (f : CallFine c.options (lengths c))
     (e : table_of v cs ps qs ≡ table_after (caused_of c) (c.nodes + c.sources) c.jobs c.lent.vectors c.lent.causes c.lent.places c.lent.passes)

@@ -1,6 +1,4 @@
 -- What holds of causes and refusals, and of every call: read Promises.
 pub mod Refusals
-pub mod Causes
 pub mod Sound
 pub mod Numbers
-pub mod Promises

@@ -12,7 +12,7 @@ use Rattle.spreads.specs.Runs.{Table, table_of, table_after}
 use Rattle.spreads.specs.Laws.Refusals.{CallFine}
 use Rattle.tally.specs.Tally.{number_in, value_in, how_many, Totals, totals_of, totals_over, Summable}
 use Rattle.tally.specs.Laws.Same.{counts_same, totals_same}
-use Rattle.spreads.specs.Laws.Jobs.{number_back, value_back, value_sound}
+use Rattle.spreads.proofs.Laws.Jobs.{number_back, value_back, value_sound}
 use Rattle.spreads.specs.Spreads.{results_of, Batch, lengths, job_in, number_at, value_at, batch_result_of, done_of, ran_left}
 
 module _ (c : Batch) (v : List Float) (ns ps qs : List ℕ) (f : CallFine c.options (lengths c))

@@ -3,5 +3,3 @@ pub mod Runs
 pub mod Refusals
 pub mod Spreads
 pub mod Numbers
-pub mod Jobs
-pub mod Promises

@@ -11,7 +11,7 @@ use Rattle.sound.specs.declared.reports.Reports.{Reports}
 use Rattle.sound.specs.declared.Soundings.{Soundings}
 use Rattle.sound.specs.declared.Soundings.TheVariants.{Done}
 use Rattle.sound.specs.Sound.{Call, sound_of}
-use Rattle.sound.specs.Laws.Promises.{Kept, every_call}
+use Rattle.sound.proofs.Laws.Promises.{Kept, every_call}
 use Rattle.say.specs.Totals.{count_in, settled_in, number_count, total_of}
 
 -- one count more, on a sum that wraps

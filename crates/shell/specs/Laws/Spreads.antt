@@ -12,7 +12,7 @@ use Rattle.sound.specs.declared.reports.Reports.{Reports}
 use Rattle.sound.specs.declared.Soundings.{Soundings}
 use Rattle.sound.specs.declared.Soundings.TheVariants.{Refused, Done}
 use Rattle.sound.specs.Sound.{Call, Results, sound_result_of, sound_of}
-use Rattle.sound.specs.Laws.Promises.{SoundJob, OfReports, Kept, every_call, of_call}
+use Rattle.sound.proofs.Laws.Promises.{SoundJob, OfReports, Kept, every_call, of_call}
 use Rattle.shell.specs.declared.seen.Seen.{Seen}
 use Rattle.shell.specs.Seen.{sound_seen, all_seen, spreads_seen, status_of}
 use Rattle.shell.specs.Laws.Each.{each_here}

@@ -30,7 +30,7 @@ use Rattle.spreads.specs.Spreads.{BatchResult, number_at, value_at, spreads_of}
 use Rattle.spreads.specs.Laws.Refusals as spreads
 use Rattle.spreads.specs.Laws.Refusals.{RefusedBy}
 use Rattle.spreads.specs.Laws.Spreads as spreads-call
-use Rattle.spreads.specs.Laws.Jobs.{vector_long, passes_back, vector_back, value_back, job_room, value_sound}
+use Rattle.spreads.proofs.Laws.Jobs.{vector_long, passes_back, vector_back, value_back, job_room, value_sound}
 use Rattle.sound.specs.declared.causes.Cause.{Cause}
 use Rattle.sound.specs.declared.reports.Reports.{Reports}
 use Rattle.sound.specs.declared.Soundings.{Soundings}
@@ -39,7 +39,7 @@ use Rattle.sound.specs.Causes.{cause_of, numbers_of}
 use Rattle.sound.specs.Reports.{reports_of}
 use Rattle.sound.specs.Sound.{Results, Call, batch_in, lengths, more_of, refusal_of, job_of, caused_of, SoundResult, sound_result_of, ran_left, sound_of}
 use Rattle.sound.specs.Laws.Refusals.{SoundFine, sound_fine, fine_none, refused_by}
-use Rattle.sound.specs.Laws.Causes.{Holds, the_cause, one_cause, sound_settled, zero_sound, by_mark, not_judged, Fits, Caused, caused, few_causes, own_of, own_back}
+use Rattle.sound.proofs.Laws.Causes.{Holds, the_cause, one_cause, sound_settled, zero_sound, by_mark, not_judged, Fits, Caused, caused, few_causes, own_of, own_back}
 use Rattle.sound.specs.Laws.Sound.{call_done}
 
 module _ (c : Call) where

@@ -28,7 +28,7 @@ use Rattle.spreads.specs.Refusals.{bytes}
 use Rattle.spreads.specs.Spreads.{Batch, lengths, batch_refusal, job_in, number_at, value_at, Results, BatchResult, batch_result_of, ran_left, spreads_of}
 use Rattle.spreads.specs.Laws.Refusals.{RefusedBy, refused_by, CallFine, call_fine, fine_none}
 use Rattle.spreads.specs.Laws.Spreads.{call_done}
-use Rattle.spreads.specs.Laws.Jobs.{vector_long, number_back, place_back, passes_back, vector_back, value_back, totals_back, job_room, value_sound}
+use Rattle.spreads.proofs.Laws.Jobs.{vector_long, number_back, place_back, passes_back, vector_back, value_back, totals_back, job_room, value_sound}
 
 module _ (c : Batch) where
   -- N

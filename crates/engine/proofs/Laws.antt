@@ -1,0 +1,3 @@
+-- Laws that stand here and not in specs/, so that a wrong definition there fails them where they stand.
+pub mod Demand
+pub mod CaughtUp
