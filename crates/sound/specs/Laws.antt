@@ -1,4 +1,4 @@
--- What holds of causes and refusals, and of every call: read Promises.
+-- What holds of causes and refusals, and of every call: read proofs/Laws/Promises.
 pub mod Refusals
 pub mod Sound
 pub mod Numbers
