@@ -3,10 +3,8 @@ use files::Going;
 use shell::{Asked, Fault, Word};
 use std::env::FillError;
 use std::fmt::InlineText;
-use std::fs::{File, OpenOptions};
-use std::io::{Error, Read, Stderr, Stdout, Write};
+use std::io::{Error, Read, Stderr, Stdout};
 use std::rt::{Clock, Env, Files};
-use std::str::from_utf8;
 
 // The bytes of the longest name that a file can have.
 const LONGEST: usize = 4095;
@@ -56,13 +54,13 @@ fn unread(err: Stderr, asked: Asked) -> Asked {
 }
 
 // Whether nothing is wrong with the arguments; if something is, it is told, and so is the status.
-pub fn is_fine(rt: &impl Files, err: Stderr, asked: Asked) -> bool {
+pub fn is_fine(err: Stderr, asked: Asked) -> bool {
     let f = shell::fault_of(asked);
     let Fault::Nothing = f else {
         if !shell::is_faulty(asked) {
             tell(err, f, b"");
         }
-        tell_status(rt, asked, shell::status(asked.strict, shell::at_fault()));
+        tell_status(asked, shell::status(asked.strict, shell::at_fault()));
         return false;
     };
     true
@@ -92,43 +90,15 @@ pub fn run<R: Env + Files + Clock>(rt: &R, out: Stdout, err: Stderr, asked: Aske
         say::sentence(err, b"standard output could not be written");
     }
     let all = shell::both(seen, shell::fault_if(pen::is_lost(p)));
-    tell_status(rt, asked, shell::status(asked.strict, all));
+    tell_status(asked, shell::status(asked.strict, all));
 }
 
-// Writes the status to the descriptor that was asked for, if that is open for writing. It is opened once more by its name; for reading too, since a named pipe that nobody reads would be waited for.
-fn tell_status(rt: &impl Files, asked: Asked, status: u8) {
-    let fd = asked.fd;
-    if fd == 0 || !is_for_writing(rt, fd) {
-        return;
+// Writes the status to the descriptor that was asked for.
+fn tell_status(asked: Asked, status: u8) {
+    if asked.fd != 0 {
+        io::print_decimal(asked.fd as i32, status as u64);
+        io::write_all(asked.fd as i32, b"\n");
     }
-    let name = InlineText::<16>::of(format_args!("/dev/fd/{fd}"));
-    let opened = OpenOptions::new()
-        .read(true)
-        .append(true)
-        .open(rt, name.as_str());
-    if let Ok(mut file) = opened {
-        let _ = writeln!(file, "{status}");
-    }
-}
-
-// Whether a descriptor is open for writing, as the system says in a line of octal digits, `flags:` before them.
-fn is_for_writing(rt: &impl Files, fd: u8) -> bool {
-    let name = InlineText::<32>::of(format_args!("/proc/self/fdinfo/{fd}"));
-    let Ok(mut file) = File::open(rt, name.as_str()) else {
-        return false;
-    };
-    let mut s = [0; 64];
-    let n = reading::read_full(&mut file, &mut s);
-    let Ok(text) = from_utf8(&s[..n]) else {
-        return false;
-    };
-    let Some((_, rest)) = text.split_once("flags:\t") else {
-        return false;
-    };
-    let Some((flags, _)) = rest.split_once("\n") else {
-        return false;
-    };
-    !flags.ends_with('0') && !flags.ends_with('4')
 }
 
 // The arguments taken so far, and the call after their files.

@@ -7,7 +7,7 @@ mod call; // call.rt: a whole call: its arguments, its files and its status
 fn main(rt: HostRuntime) {
     let n = call::arg_count(&rt);
     let asked = call::all_asked(&rt, rt.stderr(), n);
-    if call::is_fine(&rt, rt.stderr(), asked) {
+    if call::is_fine(rt.stderr(), asked) {
         call::run(&rt, rt.stdout(), rt.stderr(), asked, n);
     }
 }

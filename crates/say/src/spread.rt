@@ -164,7 +164,7 @@ pub fn total_record(out: Stdout, p: Pen, sum: u64, jobs: u64) -> Pen {
     )
 }
 
-// The sum of the counts of all causes, modulo 2^64: the very sum where it is below that, as the counts of a call are (specs/Laws/Totals.antt).
+// The sum of the counts of all causes, modulo 2^64: the very sum where it is below that, as the counts of a call are (proofs/Laws/Totals.antt).
 fn total(counts: &[u64]) -> u64
     ensures { result ≡ total_of counts.now }
 {

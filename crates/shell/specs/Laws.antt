@@ -1,7 +1,4 @@
--- What holds of the arguments and of the status. Read Status first; Spreads has the law of a whole call of spreads.
+-- What holds of arguments by themselves and of texts. What holds of all arguments and of the status stands in proofs/Laws.
 pub mod Each
 pub mod Compare
 pub mod Words
-pub mod Asked
-pub mod Status
-pub mod Spreads

@@ -1,5 +1,5 @@
 use Rattle.std.proofs.Common.{◌≡◌, arith, ◌∙◌}
-use Rattle.say.specs.Laws.Totals.{total_more}
+use Rattle.say.proofs.Laws.Totals.{total_more}
 use Rattle.say.proofs.spread.total.Goals as goal
 
 pub loop-k-preserved : goal.loop-k-preserved

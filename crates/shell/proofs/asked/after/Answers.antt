@@ -1,5 +1,5 @@
-use Rattle.std.proofs.Common.{◌≡◌, sym, ◌∙◌}
-use Rattle.shell.specs.Laws.Asked.{is_descriptor, is_word}
+use Rattle.std.proofs.Common.{sym, ◌∙◌}
+use Rattle.shell.proofs.Laws.Asked.{is_descriptor, is_word}
 use Rattle.shell.specs.Asked.{after_of}
 use Rattle.shell.proofs.asked.after.Goals as goal
 

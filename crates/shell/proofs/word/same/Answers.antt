@@ -1,4 +1,4 @@
-use Rattle.std.proofs.Common.{◌≡◌, refl, sym, ◌∙◌, arith}
+use Rattle.std.proofs.Common.{refl, sym, ◌∙◌, arith}
 use Rattle.shell.specs.Laws.Compare.{onward, different, same_end, same_short}
 use Rattle.shell.proofs.word.same.Goals as goal
 

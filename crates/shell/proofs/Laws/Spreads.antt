@@ -16,7 +16,7 @@ use Rattle.sound.proofs.Laws.Promises.{SoundJob, OfReports, Kept, every_call, of
 use Rattle.shell.specs.declared.seen.Seen.{Seen}
 use Rattle.shell.specs.Seen.{sound_seen, all_seen, spreads_seen, status_of}
 use Rattle.shell.specs.Laws.Each.{each_here}
-use Rattle.shell.specs.Laws.Status.{strict_zero, fault_anywhere}
+use Rattle.shell.proofs.Laws.Status.{strict_zero, fault_anywhere}
 
 -- ---- a count is all of them exactly where each is counted
 

@@ -1,2 +1,0 @@
--- What holds of the sums that are written.
-pub mod Totals
