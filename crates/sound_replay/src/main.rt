@@ -5,7 +5,7 @@
 mod call; // call.rt: a call that was read, made and compared
 mod read; // read.rt: a file's next call
 mod rooms; // rooms.rt: the lent buffers
-mod tally; // tally.rt: how many calls were refused, and how many jobs have each cause
+mod tallied; // tallied.rt: how many calls were refused, and how many jobs have each cause
 
 use std::io::Read;
 use std::rt::Files;
@@ -29,19 +29,19 @@ fn replay_file<R: Files + Print + Eprint>(rt: &R, name: &[u8]) {
 
 // Replays the whole file and writes what came out.
 fn replay<P: Print, R: Read>(rt: &P, from: &mut R, name: &[u8]) {
-    let mut counts = tally::zeros();
+    let mut counts = tallied::zeros();
     let calls = read::calls_in(from);
     replay_all(rt, from, calls, &mut counts);
     let _ = rt.write_all(name);
     let _ = print!(rt; ": {calls} calls");
-    tally::report(rt, &counts);
+    tallied::report(rt, &counts);
 }
 
 // Replays call after call. A file that ends too early, or whose sizes are beyond all bounds, counts as one call that differs and ends the replay.
 fn replay_all<P: Print, R: Read>(rt: &P, from: &mut R, calls: u64, counts: &mut [u64]) {
     for k in 0..calls {
         let found = read::replay_one(from, counts);
-        tally::found(rt, counts, k, found);
+        tallied::found(rt, counts, k, found);
         if call::ends(found) {
             return;
         }

@@ -1,5 +1,5 @@
 // One call: its buffers are lent as the format says, the C door's function makes it, and what it answers and leaves is held against the stored report.
-use super::{rooms, tally};
+use super::{rooms, tallied};
 use jobs::{Lengths, Spreads, SpreadsReport, within, within_words};
 use savrunte::SpreadsAnswer;
 
@@ -114,7 +114,7 @@ pub fn replayed(
 fn tallied_as(totals: Totals, tallied: &mut [u64]) {
     let counts = totals.counts;
     let a = totals.answer;
-    tally::ended(tallied, a.refusal, &counts);
+    tallied::ended(tallied, a.refusal, &counts);
 }
 
 // The first of two fields that differs.
