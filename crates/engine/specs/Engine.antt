@@ -11,7 +11,6 @@ use Rattle.steps.specs.declared.Job.{Job}
 use Rattle.steps.specs.Counters.{verdict_of, dc_verdict_of}
 use Rattle.machine.specs.State.{Buffers, buffers_of, State}
 use Rattle.passes.specs.Attempt.{Circuit, circuit_of}
-use Rattle.engine.specs.declared.Ending.{Ending}
 use Rattle.engine.specs.declared.Outcome.{Outcome}
 use Rattle.engine.specs.declared.Outcome.TheVariants.{Refused, Ended}
 use Rattle.engine.specs.Work.{end_of, behind_in}

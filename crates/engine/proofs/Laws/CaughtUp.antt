@@ -1,7 +1,7 @@
 -- What the option `catchup` promises. With it on, no diode is behind where a DC run has settled or a transient has come to its end, nor in the vector of any accepted step. A DC run that settles with it on never takes
 -- fewer passes than with it off; in as many it has the same bits. With it off nothing of this holds: `cases` computes such a run.
 -- Clients cite caught_up_lem, answer_caught_up, accepted_caught_up, with_switch, never_fewer, settles_too and same_bits. Assumes nothing.
-use Rattle.std.specs.Prelude.{ℕ, ◌+◌, ◌<◌, ◌≤◌, ◌≡◌, Bool, true, false, cond, eqb, take, Float}
+use Rattle.std.specs.Prelude.{ℕ, ◌+◌, ◌≤◌, ◌≡◌, Bool, true, false, cond, take, Float}
 use Rattle.std.proofs.Math.Path.{refl, ap}
 use Rattle.std.proofs.Common.{sym, subst, ◌∙◌, true≢false, inl, arith}
 use mathlib.Core.List.{List}
@@ -16,22 +16,21 @@ use Rattle.groups.specs.Laws.Storage.{no_diode, taken_elsewhere}
 use Rattle.behind.specs.Behind.{behind_number}
 use Rattle.behind.specs.Laws.Same.{number_same}
 use Rattle.steps.specs.declared.Counters.{Counters}
-use Rattle.steps.specs.declared.Job.{Job}
 use Rattle.steps.specs.declared.Report.{Report}
 use Rattle.steps.specs.declared.Report.TheVariants.{Yes, No, Error, Diode, Sine}
-use Rattle.steps.specs.Phases.{dc_phase, transient_phase}
+use Rattle.steps.specs.Phases.{dc_phase}
 use Rattle.steps.specs.Counters.{top, going, verdict_of}
 use Rattle.steps.specs.Laws.Waited.{waited_caught}
 use Rattle.steps.specs.Laws.Switched.{with_catchup}
-use Rattle.machine.specs.State.{Buffers, State, Attempt}
-use Rattle.machine.specs.Machine.{compared, tried, took, tried_by, accepts, dc_pass, step_pass, pass, run_for}
+use Rattle.machine.specs.State.{State, Attempt}
+use Rattle.machine.specs.Machine.{compared, tried, took, tried_by, accepts, step_pass, run_for}
 use Rattle.machine.proofs.Laws.Settles.{ends_with_yes}
 use Rattle.machine.proofs.Laws.Taken.{holds_of_both}
-use Rattle.machine.proofs.Laws.Switched.{Ahead, Pair, same, apart, pairs}
+use Rattle.machine.proofs.Laws.Switched.{Pair, same, apart, pairs}
 use Rattle.passes.specs.Attempt.{Circuit, pass_of, attempt_of}
-use Rattle.passes.specs.Laws.Switched.{behind_same, attempts_same}
+use Rattle.passes.specs.Laws.Switched.{attempts_same}
 use Rattle.engine.specs.Work.{start_of, end_of, behind_in}
-use Rattle.engine.specs.Engine.{Call, sizes, checked_call, Result, result_of, refused_of, ending_of, circuit, last_of, last_ending, laid, unless, run_of}
+use Rattle.engine.specs.Engine.{Call, sizes, checked_call, result_of, refused_of, ending_of, circuit, last_of, laid, unless, run_of}
 use Rattle.engine.specs.Numbers.{numbers_of}
 use Rattle.engine.specs.Laws.Numbers.{refused_numbers, ended_numbers}
 

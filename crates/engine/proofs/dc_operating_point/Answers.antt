@@ -3,7 +3,6 @@ use mathlib.Core.List.{List, [], ◌∷◌}
 use native.Mathlib.Omega.{arith}
 use lib.ListN.{length}
 use lib.Ieee.{Float}
-use borrow.Author.Rules.{rules}
 use Rattle.engine.proofs.dc_operating_point.Goals as goal
 
 empty : (w : List Float) → length w ≡ 0 → w ≡ []

@@ -1,7 +1,6 @@
 -- `single::marked` meets its contract.
 use mathlib.Core.Path.{sym, ap}
 use Rattle.single.specs.Single.{mark_of}
-use borrow.Author.Rules.{rules}
 use Rattle.single.proofs.marked.Goals as goal
 
 pub returns-in-Refused : goal.returns-in-Refused

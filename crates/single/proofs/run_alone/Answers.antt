@@ -1,6 +1,5 @@
 -- `single::run_alone` meets its contract.
 use Rattle.single.specs.Laws.Alone.{was_marked, was_scratched}
-use borrow.Author.Rules.{rules}
 use Rattle.single.proofs.run_alone.Goals as goal
 
 pub returns : goal.returns

@@ -1,8 +1,8 @@
 -- A settled DC run has a finite vector: the last pass that says "yes" has looked at every unknown, and no later pass writes. Clients cite AllFinite and alone_finite. Assumes nothing.
 use Prim.Native.Nat.{ℕ, zero, suc, ◌<◌, ◌≤◌}
 use Rattle.std.proofs.Math.Path.{◌≡◌, ap, subst}
-use Rattle.std.specs.Prelude.{refl, Bool, ◌⊎◌, List, eqb, ltb, length, get_or, take, drop, Float}
-use Rattle.std.proofs.Common.{sym, inl}
+use Rattle.std.specs.Prelude.{refl, Bool, List, eqb, ltb, length, get_or, take, drop, Float}
+use Rattle.std.proofs.Common.{inl}
 use Rattle.std.proofs.Math.Bool.{true, false, cond}
 use Rattle.std.proofs.Math.Logic.{⊎_elim}
 use native.Mathlib.Omega.{arith}
@@ -23,7 +23,7 @@ use Rattle.convergence.specs.declared.Convergence.TheVariants as check
 use Rattle.convergence.specs.Convergence.{number_of, limit, place, place_at, checked, convergence_of}
 use Rattle.checks.specs.Checks.{order, records}
 use Rattle.steps.specs.declared.Report.{Report}
-use Rattle.steps.specs.declared.Report.TheVariants.{Yes, No, Error, Diode, Sine}
+use Rattle.steps.specs.declared.Report.TheVariants.{Yes, Diode, Sine}
 use Rattle.numbers.specs.Verdicts.{settled, diode_current}
 use Rattle.steps.specs.Counters.{top, verdict_of}
 use Rattle.steps.specs.Control.{report_of}

@@ -16,7 +16,7 @@ use Rattle.spreads.specs.Spreads.{scratch_of, matrix_cells}
 use Rattle.spreads.specs.Laws.Refusals as spreads
 use Rattle.sound.specs.declared.refusals.More.{More}
 use Rattle.sound.specs.Refusals.{sound_refusal}
-use Rattle.sound.specs.Sound.{results_of, Call, call_of, lengths, more_of, refusal_of}
+use Rattle.sound.specs.Sound.{results_of, Call, call_of, lengths, refusal_of}
 use Rattle.sound.specs.Laws.Refusals.{SoundFine, sound_fine}
 use Rattle.sound.specs.Laws.Sound.{call_refused, call_done}
 use Rattle.sound.proofs.Parts.{same_whole}

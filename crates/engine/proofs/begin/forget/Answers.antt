@@ -1,10 +1,6 @@
-use Prim.Native.Nat.{◌≤◌, ◌-◌}
-use mathlib.Core.Path.{◌≡◌, ap, ◌∙◌}
-use native.Mathlib.Omega.{arith}
-use lib.ListN.{length}
-use Rattle.loops.specs.Loop.{turns}
+use mathlib.Core.Path.{◌∙◌}
 use Rattle.loops.specs.Laws.Loop.{more, done}
-use Rattle.engine.specs.Begin.{forgotten, forget_at}
+use Rattle.engine.specs.Begin.{forgotten}
 use borrow.Author.Rules.{rules}
 use Rattle.engine.proofs.begin.forget.Goals as goal
 

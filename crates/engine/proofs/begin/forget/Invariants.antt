@@ -1,11 +1,8 @@
-use Prim.Native.Nat.{◌≤◌, ◌-◌}
-use mathlib.Core.Path.{◌≡◌, ap, ◌∙◌}
-use native.Mathlib.Omega.{arith}
+use Prim.Native.Nat.{◌≤◌}
+use mathlib.Core.Path.{◌≡◌}
 use lib.ListN.{length}
 use Rattle.loops.specs.Loop.{turns}
-use Rattle.loops.specs.Laws.Loop.{more, done}
-use Rattle.engine.specs.Begin.{forgotten, forget_at}
-use borrow.Author.Rules.{rules}
+use Rattle.engine.specs.Begin.{forget_at}
 use Rattle.engine.proofs.begin.forget.Given as goal
 
 abbrev pub invariant-loop-i : goal.invariant-loop-i

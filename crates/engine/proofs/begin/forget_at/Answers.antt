@@ -1,5 +1,4 @@
 -- `engine::begin::forget_at` meets its contract: by the test on the kind byte. Assumes nothing.
-use borrow.Author.Rules.{rules}
 use Rattle.engine.proofs.begin.forget_at.Goals as goal
 
 pub returns-then-kind : goal.returns-then-kind

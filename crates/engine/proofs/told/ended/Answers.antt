@@ -1,5 +1,4 @@
 use Rattle.engine.specs.Engine.{ending_of}
-use borrow.Author.Rules.{rules}
 use Rattle.engine.proofs.told.ended.Goals as goal
 
 pub returns : goal.returns

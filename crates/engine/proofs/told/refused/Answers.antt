@@ -1,5 +1,4 @@
 use Rattle.engine.specs.Engine.{refused_of}
-use borrow.Author.Rules.{rules}
 use Rattle.engine.proofs.told.refused.Goals as goal
 
 pub returns : goal.returns

@@ -9,7 +9,6 @@ use Rattle.steps.specs.declared.Counters.{Counters}
 use Rattle.machine.specs.State.{Buffers, State, state_of}
 use Rattle.passes.specs.Attempt.{Circuit, circuit_of}
 use Rattle.engine.specs.Work.{behind_in, handover_of, handover}
-use borrow.Author.Rules.{rules}
 use Rattle.engine.proofs.work.run_in.Goals as goal
 
 part : (a : List Float) (n : ℕ) → n ≤ 48 → length a ≡ 48 → length (take n a) ≡ n

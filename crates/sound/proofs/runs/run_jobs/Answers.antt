@@ -1,15 +1,15 @@
 -- `sound::runs::run_jobs` meets its contract.
-use Prim.Native.Nat.{ℕ, ◌+◌, ◌-◌}
+use Prim.Native.Nat.{ℕ, ◌+◌}
 use mathlib.Core.Path.{◌≡◌, subst}
 use mathlib.Core.List.{◌++◌}
 use native.Mathlib.Omega.{arith}
-use lib.ListN.{length, drop}
+use lib.ListN.{drop}
 use Rattle.loops.specs.Each.{each}
 use Rattle.loops.specs.Laws.Each.{row}
 use Rattle.spreads.specs.Runs.{table_of, table_after, job_at}
 use Rattle.spreads.specs.Spreads.{number_at}
 use Rattle.sound.specs.Causes.{with_causes}
-use Rattle.sound.proofs.Turn.{Turn, begun, turned}
+use Rattle.sound.proofs.Turn.{begun, turned}
 use Rattle.sound.proofs.runs.run_jobs.Goals as goal
 
 pub loop-job-init : goal.loop-job-init

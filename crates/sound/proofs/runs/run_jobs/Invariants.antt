@@ -1,14 +1,5 @@
-use Prim.Native.Nat.{ℕ, ◌+◌, ◌-◌}
-use mathlib.Core.Path.{◌≡◌, subst}
-use mathlib.Core.List.{◌++◌}
-use native.Mathlib.Omega.{arith}
-use lib.ListN.{length, drop}
-use Rattle.loops.specs.Each.{each}
-use Rattle.loops.specs.Laws.Each.{row}
-use Rattle.spreads.specs.Runs.{table_of, table_after, job_at}
-use Rattle.spreads.specs.Spreads.{number_at}
-use Rattle.sound.specs.Causes.{with_causes}
-use Rattle.sound.proofs.Turn.{Turn, begun, turned}
+use lib.ListN.{length}
+use Rattle.sound.proofs.Turn.{Turn}
 use Rattle.sound.proofs.runs.run_jobs.Given as goal
 
 abbrev pub invariant-loop-job : goal.invariant-loop-job

@@ -1,6 +1,5 @@
 -- `spreads::refusals::bad_jobs` meets its contract.
 use Rattle.spreads.specs.Refusals.{bad_jobs}
-use borrow.Author.Rules.{rules}
 use Rattle.spreads.proofs.refusals.bad_jobs.Goals as goal
 
 pub returns : goal.returns

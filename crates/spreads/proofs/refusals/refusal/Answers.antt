@@ -6,7 +6,6 @@ use Rattle.checks.specs.Checks.{sizes_refusal}
 use Rattle.checks.specs.Laws.Checks.{order_small}
 use Rattle.spreads.specs.Refusals.{call_refusal}
 use Rattle.spreads.specs.Laws.Refusals.{chosen}
-use borrow.Author.Rules.{rules}
 use Rattle.spreads.proofs.refusals.refusal.Goals as goal
 
 pub returns-then-bad_jobs : goal.returns-then-bad_jobs

@@ -4,7 +4,6 @@ use mathlib.Core.Path.{refl}
 use native.Mathlib.Nat.{lt_of_le_of_lt, mul-le-mul}
 use lib.Dec.{lit<}
 use Rattle.spreads.specs.Refusals.{short_results}
-use borrow.Author.Rules.{rules}
 use Rattle.spreads.proofs.refusals.short_results.Goals as goal
 
 pub overflow_mul-result : goal.overflow_mul-result

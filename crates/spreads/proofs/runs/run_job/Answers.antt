@@ -2,7 +2,6 @@
 use Prim.Native.Nat.{◌+◌, ◌-◌, ◌*◌}
 use native.Mathlib.Omega.{arith}
 use Rattle.spreads.specs.Laws.Runs.{placed}
-use borrow.Author.Rules.{rules}
 use Rattle.spreads.proofs.runs.run_job.Goals as goal
 
 pub returns : goal.returns

@@ -1,12 +1,10 @@
 -- `spreads::runs::run_jobs` meets its contract.
-use Prim.Native.Nat.{ℕ, ◌+◌, ◌-◌}
+use Prim.Native.Nat.{ℕ, ◌+◌}
 use mathlib.Core.Path.{◌≡◌, subst}
 use native.Mathlib.Omega.{arith}
-use lib.ListN.{length}
 use Rattle.spreads.specs.Runs.{table_of, table_after, job_at}
-use Rattle.spreads.proofs.Turn.{Turn, begun, turned}
+use Rattle.spreads.proofs.Turn.{begun, turned}
 use Rattle.loops.specs.Laws.Each.{row}
-use borrow.Author.Rules.{rules}
 use Rattle.spreads.proofs.runs.run_jobs.Goals as goal
 
 pub loop-job-init : goal.loop-job-init

@@ -1,11 +1,5 @@
-use Prim.Native.Nat.{ℕ, ◌+◌, ◌-◌}
-use mathlib.Core.Path.{◌≡◌, subst}
-use native.Mathlib.Omega.{arith}
 use lib.ListN.{length}
-use Rattle.spreads.specs.Runs.{table_of, table_after, job_at}
-use Rattle.spreads.proofs.Turn.{Turn, begun, turned}
-use Rattle.loops.specs.Laws.Each.{row}
-use borrow.Author.Rules.{rules}
+use Rattle.spreads.proofs.Turn.{Turn}
 use Rattle.spreads.proofs.runs.run_jobs.Given as goal
 
 abbrev pub invariant-loop-job : goal.invariant-loop-job
