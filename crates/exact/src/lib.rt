@@ -3,7 +3,7 @@
 #![tactic(auto)]
 
 mod limbs; // limbs.rt: a number added to a row of limbs, the carry passed on
-mod parts; // parts.rt: a finite float as digits at a place
+pub mod parts; // parts.rt: a finite float as digits at a place
 
 ghost use Rattle.std.specs.Prelude.{◌≡◌, ◌+◌, ◌^◌, ◌<◌, ◌≤◌, T, length, nat_le, slice_index};
 ghost use Rattle.std.specs.Float.Ieee.Scale.{finite};

@@ -32,7 +32,7 @@ pub fn evaluate(points: &[u8], first: usize, count: usize, t_delay: f64, repeat:
     if past_end(repeat, t, t_delay + last.time) {
         return last.level;
     }
-    let t_cycle = (t - t_delay) % last.time;
+    let t_cycle = remainder::remainder(t - t_delay, last.time);
     if t_cycle < 0.0 {
         return 0.0;
     }
@@ -159,7 +159,7 @@ pub fn evaluate_first(
     if count == 1 {
         return start.level;
     }
-    let t_cycle = (t - t_delay) % last.time;
+    let t_cycle = remainder::remainder(t - t_delay, last.time);
     // not `<=`: a cycle time that is no number has the first level too
     if !(t_cycle > start.time) {
         return start.level;

@@ -1,3 +1,4 @@
+-- What the proofs of this crate share.
 pub mod Joins
 pub mod Again
 pub mod Room

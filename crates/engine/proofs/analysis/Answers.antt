@@ -1,4 +1,4 @@
--- the call, and what holds of its sizes once nothing was refused
+-- `engine::analysis` meets its contract.
 use Prim.Native.Nat.{ℕ, ◌+◌, ◌*◌, ◌≤◌}
 use mathlib.Core.Path.{◌≡◌, refl, sym, ap, ◌∙◌, subst}
 use mathlib.Core.List.{List}
@@ -20,6 +20,7 @@ use Rattle.engine.specs.Engine.{Call, call_of, sizes, checked_call}
 use Rattle.engine.specs.Laws.Engine.{run_refused, run_ended}
 use Rattle.engine.proofs.analysis.Goals as goal
 
+-- what holds of the sizes of a call once nothing was refused
 known : (o : Options) (z : Sizes) (sheet : List ℕ) (f : Checked) → f ≡ checked_of o z sheet → f ≡ Clean → Fine o z
 known o z sheet f e k = fine o z (clean_fine o z sheet (sym e ∙ k)).0
 

@@ -1,3 +1,4 @@
+-- `engine::dc_operating_point` meets its contract.
 use mathlib.Core.Path.{◌≡◌, refl}
 use mathlib.Core.List.{List, [], ◌∷◌}
 use native.Mathlib.Omega.{arith}

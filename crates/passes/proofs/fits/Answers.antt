@@ -1,3 +1,4 @@
+-- `passes::fits` meets its contract.
 use Prim.Native.Nat.{◌*◌}
 use native.Mathlib.Omega.{arith}
 use native.Mathlib.Nat.{mul-le-mul, lt_of_le_of_lt}

@@ -1,5 +1,4 @@
 -- `passes::follow` meets its contract: by the phase. Assumes nothing.
--- what is accepted and what is written, together
 use mathlib.Core.Path.{◌≡◌, ap}
 use mathlib.Core.Bool.{cond}
 use mathlib.Core.List.{List}
@@ -16,6 +15,7 @@ use Rattle.machine.specs.Machine.{accepts, accepted_by}
 use Rattle.passes.specs.Done.{dc_done, step_done, aftermath_of, aftermath}
 use Rattle.passes.proofs.follow.Goals as goal
 
+-- what is accepted and what is written, together
 module _ (j : Job) (r : Report) (c d : Counters) (a a' v rows rows' : List Float) (e : a' ≡ accepted_by r c a v) where
   in-dc : c.phase ≡ dc_phase → written_of d rows' ≡ dc_done j r c v rows → aftermath_of d a' rows' ≡ aftermath j r c a v rows
   unfolding aftermath accepted_by

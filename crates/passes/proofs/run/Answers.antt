@@ -1,5 +1,4 @@
 -- `passes::run` meets its contract: where the lengths fit, with diodes or without, and where they do not. Assumes nothing.
--- the list is as long after it was written as before
 use Prim.Native.Nat.{ℕ, ◌≤◌}
 use mathlib.Core.Path.{◌≡◌, refl, sym, ◌∙◌}
 use mathlib.Core.Bool.{Bool, true, false, ◌&&◌, false≢true, and-eq-true_iff as both}
@@ -12,6 +11,7 @@ use Rattle.passes.specs.Laws.Sized.{sized}
 use Rattle.passes.specs.Run.{run_on}
 use Rattle.passes.proofs.run.Goals as goal
 
+-- the list is as long after it was written as before
 within : (n n₀ d : ℕ) → d ≤ n₀ → n ≡ n₀ → d ≤ n
 within n n₀ d h e = rw e h
 

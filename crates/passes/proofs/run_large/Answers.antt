@@ -1,5 +1,4 @@
 -- `passes::run_large` meets its contract: the array is cut to the matrix's length. Assumes nothing.
--- a matrix of some order fits one of the largest
 use Prim.Native.Nat.{ℕ, ◌+◌, ◌*◌, ◌≤◌}
 use mathlib.Core.Path.{◌≡◌, sym}
 use mathlib.Core.List.{List}
@@ -11,6 +10,7 @@ use native.Mathlib.Nat.{mul-le-mul}
 use Rattle.passes.proofs.Room.{holding}
 use Rattle.passes.proofs.run_large.Goals as goal
 
+-- a matrix of some order fits one of the largest
 largest : (n s : ℕ) → n ≤ 48 → s ≡ n * (n + 1) → s ≤ 2352
 largest n s h e =
     let p : n + 1 ≤ 49 = omega arith in

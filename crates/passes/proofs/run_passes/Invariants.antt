@@ -1,3 +1,4 @@
+-- What the loop of `passes::run_passes` keeps true.
 use Prim.Native.Nat.{ℕ}
 use mathlib.Core.Path.{◌≡◌}
 use mathlib.Core.Bool.{Bool, true}

@@ -1,5 +1,4 @@
 -- `sound::answer` meets its contract: a refusal changes nothing; else the reports read what the runs leave. Assumes nothing.
--- what holds of the lengths of a call once nothing was refused
 use Prim.Native.Nat.{ℕ, ◌+◌, ◌*◌, ◌/◌}
 use mathlib.Core.Path.{◌≡◌, refl, sym, ◌∙◌}
 use native.Mathlib.Nat.{lt_of_le_of_lt, mul-le-mul}
@@ -23,6 +22,7 @@ use Rattle.sound.proofs.Parts.{same_whole}
 use Rattle.sound.proofs.Whole.{settled_readable, sound_readable, whole}
 use Rattle.sound.proofs.answer.Goals as goal
 
+-- what holds of the lengths of a call once nothing was refused
 module _ (o : Options) (z z' : Lent) (y y' : More) (k : ℕ) (e : k ≡ sound_refusal o z y) (p : z ≡ z') (q : y ≡ y') where
   same_refusal : k ≡ sound_refusal o z' y'
   same_refusal = e ∙ (λ i. sound_refusal o (p i) (q i))

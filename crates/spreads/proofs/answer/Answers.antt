@@ -1,5 +1,4 @@
 -- `spreads::answer` meets its contract: a refusal changes nothing; else the report reads what the runs leave. Assumes nothing.
--- what holds of the lengths of a call once nothing was refused
 use Prim.Native.Nat.{ℕ, ◌+◌, ◌*◌, ◌/◌}
 use mathlib.Core.Path.{◌≡◌, refl, sym, ap, ◌∙◌, subst}
 use native.Mathlib.Nat.{lt_of_le_of_lt, mul-le-mul}
@@ -18,6 +17,7 @@ use Rattle.spreads.specs.Laws.Spreads.{call_refused, call_done}
 use Rattle.spreads.proofs.Whole.{readable, whole}
 use Rattle.spreads.proofs.answer.Goals as goal
 
+-- what holds of the lengths of a call once nothing was refused
 ok : (o : Options) (z y : Lent) (k : ℕ) → k ≡ call_refusal o z → k ≡ 0 → z ≡ y → CallFine o y
 ok o z y k e h r = subst (CallFine o) r (call_fine o z (sym e ∙ h))
 

@@ -1,3 +1,4 @@
+-- `engine::begin::begin` meets its contract.
 use Rattle.engine.proofs.begin.begin.Goals as goal
 
 pub returns : goal.returns

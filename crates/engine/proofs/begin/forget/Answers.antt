@@ -1,3 +1,4 @@
+-- `engine::begin::forget` meets its contract.
 use mathlib.Core.Path.{◌∙◌}
 use Rattle.loops.specs.Laws.Loop.{more, done}
 use Rattle.engine.specs.Begin.{forgotten}

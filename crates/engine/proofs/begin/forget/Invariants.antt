@@ -1,3 +1,4 @@
+-- What the loop of `engine::begin::forget` keeps true.
 use Prim.Native.Nat.{◌≤◌}
 use mathlib.Core.Path.{◌≡◌}
 use lib.ListN.{length}

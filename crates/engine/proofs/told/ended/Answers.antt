@@ -1,3 +1,4 @@
+-- `engine::told::ended` meets its contract.
 use Rattle.engine.specs.Engine.{ending_of}
 use Rattle.engine.proofs.told.ended.Goals as goal
 

@@ -1,3 +1,4 @@
+-- `engine::told::refused` meets its contract.
 use Rattle.engine.specs.Engine.{refused_of}
 use Rattle.engine.proofs.told.refused.Goals as goal
 

@@ -1,3 +1,4 @@
+-- `engine::work::work` meets its contract.
 use mathlib.Core.Path.{◌∙◌}
 use Rattle.engine.proofs.Whole.{worked}
 use Rattle.engine.proofs.work.work.Goals as goal

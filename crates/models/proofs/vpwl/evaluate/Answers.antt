@@ -18,11 +18,11 @@ pub returns-then-t_cycle : goal.returns-then-t_cycle
 unfolding level_at
 returns-then-t_cycle c =
     let a = c.args in
-    rw (some_points a.points.now a.first a.count _ _ _ (omega arith), ← c.point_at-last.ensures, ← c.past_end.ensures, c.if-past_end.false, c.if-t_cycle.true)
+    rw (some_points a.points.now a.first a.count _ _ _ (omega arith), ← c.point_at-last.ensures, ← c.past_end.ensures, c.if-past_end.false, ← c.remainder-t_cycle.ensures, c.if-t_cycle.true)
 
 pub returns : goal.returns
 unfolding level_at
 returns c =
     let a = c.args in
-    rw (some_points a.points.now a.first a.count _ _ _ (omega arith), ← c.point_at-last.ensures, ← c.past_end.ensures, c.if-past_end.false, c.if-t_cycle.false, ← c.between.ensures)
+    rw (some_points a.points.now a.first a.count _ _ _ (omega arith), ← c.point_at-last.ensures, ← c.past_end.ensures, c.if-past_end.false, ← c.remainder-t_cycle.ensures, c.if-t_cycle.false, ← c.between.ensures)
     c.level_on.ensures

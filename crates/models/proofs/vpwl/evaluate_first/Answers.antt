@@ -31,10 +31,10 @@ pub returns-then-not-t_cycle-start : goal.returns-then-not-t_cycle-start
 returns-then-not-t_cycle-start c =
     let a = c.args in
     let rule = some_first a.points.now a.first a.count a.t_delay a.repeat a.t _ _ (omega arith) c.point_at-start.ensures c.point_at-last.ensures in
-    rw (rule, c.if-t-t_delay.false, ← c.at_end.ensures, c.if-at_end.false, ne_eqb _ _ c.if-count-eq1.false, c.if-not-t_cycle-start.true)
+    rw (rule, c.if-t-t_delay.false, ← c.at_end.ensures, c.if-at_end.false, ne_eqb _ _ c.if-count-eq1.false, ← c.remainder-t_cycle.ensures, c.if-not-t_cycle-start.true)
 
 pub returns : goal.returns
 returns c =
     let a = c.args in
     let rule = some_first a.points.now a.first a.count a.t_delay a.repeat a.t _ _ (omega arith) c.point_at-start.ensures c.point_at-last.ensures in
-    rw (rule, c.if-t-t_delay.false, ← c.at_end.ensures, c.if-at_end.false, ne_eqb _ _ c.if-count-eq1.false, c.if-not-t_cycle-start.false) c.evaluate.ensures
+    rw (rule, c.if-t-t_delay.false, ← c.at_end.ensures, c.if-at_end.false, ne_eqb _ _ c.if-count-eq1.false, ← c.remainder-t_cycle.ensures, c.if-not-t_cycle-start.false) c.evaluate.ensures

@@ -1,4 +1,4 @@
--- a part of 48 numbers
+-- `passes::attempt::renew` meets its contract.
 use Prim.Native.Nat.{ℕ, ◌≤◌}
 use mathlib.Core.Path.{◌≡◌, sym}
 use mathlib.Core.List.{List}
@@ -8,6 +8,7 @@ use lib.Ieee.{Float}
 use native.Mathlib.Omega.{arith}
 use Rattle.passes.proofs.attempt.renew.Goals as goal
 
+-- a part of 48 numbers
 part : (a : List Float) (n : ℕ) → n ≤ 48 → length a ≡ 48 → length (take n a) ≡ n
 part a n h l = length-take-le n a (omega arith)
 

@@ -1,3 +1,4 @@
+-- `passes::attempt::renew_in` meets its contract.
 use Rattle.passes.proofs.Joins.{renews}
 use Rattle.passes.proofs.attempt.renew_in.Goals as goal
 

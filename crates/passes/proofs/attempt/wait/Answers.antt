@@ -1,5 +1,4 @@
 -- `passes::attempt::wait` meets its contract: by what the report was, the option, and whether a diode is behind. Assumes nothing.
--- only "yes" waits
 use Prim.Native.Nat.{ℕ}
 use mathlib.Core.Path.{◌≡◌, refl, sym, ap, ◌∙◌}
 use mathlib.Core.Bool.{true, false, not, true≢false, false≢true}
@@ -13,6 +12,7 @@ use Rattle.steps.specs.Laws.Waited.{waited_off, waited_none, waited_held}
 use Rattle.machine.specs.Machine.{accepts}
 use Rattle.passes.proofs.attempt.wait.Goals as goal
 
+-- only "yes" waits
 unmoved : (o : Options) (b : ℕ) (r : Report) → accepts r ≡ false → r ≡ waited o b r
 unfolding waited
 unmoved o b Yes h = absurd (true≢false h)

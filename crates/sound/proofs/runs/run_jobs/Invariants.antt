@@ -1,3 +1,4 @@
+-- What the loop of `sound::runs::run_jobs` keeps true.
 use lib.ListN.{length}
 use Rattle.sound.proofs.Turn.{Turn}
 use Rattle.sound.proofs.runs.run_jobs.Given as goal

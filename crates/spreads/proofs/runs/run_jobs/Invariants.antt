@@ -1,3 +1,4 @@
+-- What the loop of `spreads::runs::run_jobs` keeps true.
 use lib.ListN.{length}
 use Rattle.spreads.proofs.Turn.{Turn}
 use Rattle.spreads.proofs.runs.run_jobs.Given as goal

@@ -1,0 +1,3 @@
+-- Lemmas of the remainder.
+pub mod Value
+pub mod Remains

@@ -1,0 +1,1 @@
+-- The remainder needs no definition of its own: its contract is the kit's `rem`.

@@ -1,0 +1,104 @@
+// The remainder of two floats, exactly as `%` answers it, over whole numbers: both are digits at a place, the digits are divided, and what is left is put back at the lower place.
+#![tactic(auto)]
+
+ghost use Rattle.std.specs.Prelude.{◌≡◌, ◌+◌, ◌-◌, ◌*◌, ◌%◌, ◌^◌, ◌<◌, ◌≤◌, min, false};
+ghost use Rattle.std.specs.Float.{binary64};
+ghost use Rattle.std.specs.Float.Ieee.{rem, round};
+ghost use Rattle.std.specs.Float.Ieee.Exact.{HasValue};
+
+// x less the whole multiple of y that is next below it in size, with x's sign.
+pub fn remainder(x: f64, y: f64) -> f64
+    ensures { result ≡ rem binary64 x y }
+{
+    if !num::finite(x) {
+        return num::float_of(0x7ff8000000000000);
+    }
+    if !num::finite(y) {
+        return if y == y { x } else { y };
+    }
+    let a = exact::parts::parts_of(x);
+    let b = exact::parts::parts_of(y);
+    if b.digits == 0 {
+        return num::float_of(0x7ff8000000000000);
+    }
+    put(
+        left(a.digits, a.place, b.digits, b.place),
+        lower(a.place, b.place),
+        a.minus,
+    )
+}
+
+// What is left of m * 2^p, divided by n * 2^q, at the lower of the two places.
+fn left(m: u64, p: usize, n: u64, q: usize) -> u64
+    requires some { 0 < n }
+    requires digits { m < 2 ^ 53 }
+    requires others { n < 2 ^ 53 }
+    ensures value { result * 2 ^ min p q ≡ (m * 2 ^ p) % (n * 2 ^ q) }
+    ensures few { result < 2 ^ 53 }
+{
+    if q <= p {
+        return doubled(m % n, p - q, n);
+    }
+    short(m, q - p, n)
+}
+
+// r doubled k times, modulo n.
+fn doubled(r: u64, k: usize, n: u64) -> u64
+    requires below { r < n }
+    requires few { n < 2 ^ 53 }
+    ensures { result ≡ (r * 2 ^ k) % n }
+{
+    let mut left = r;
+    for _i in 0..k {
+        left = 2 * left % n;
+    }
+    left
+}
+
+// What is left of m, divided by n * 2^d.
+fn short(m: u64, d: usize, n: u64) -> u64
+    requires some { 0 < n }
+    requires digits { m < 2 ^ 53 }
+    ensures { result ≡ m % (n * 2 ^ d) }
+{
+    if 53 <= d {
+        return m;
+    }
+    let unit = 1u64 << d;
+    m / unit % n * unit + m % unit
+}
+
+fn lower(p: usize, q: usize) -> usize
+    ensures { result ≡ min p q }
+{
+    if q <= p { q } else { p }
+}
+
+// r * 2^place in units of 2^-1074, with a sign.
+fn put(r: u64, place: usize, minus: bool) -> f64
+    requires few { r < 2 ^ 53 }
+    requires low { place ≤ 2045 }
+    ensures { result ≡ round binary64 minus (r * 2 ^ place) (2 ^ 1074) }
+{
+    signed(r, minus) * unit(place)
+}
+
+// A whole number as a float, with a sign.
+fn signed(r: u64, minus: bool) -> f64
+    requires { r < 2 ^ 53 }
+    ensures { HasValue result minus r 1 }
+{
+    let size = r as f64;
+    if minus { -size } else { size }
+}
+
+// 2^(place - 1074), from its bits.
+fn unit(place: usize) -> f64
+    requires { place ≤ 2045 }
+    ensures { HasValue result false (2 ^ place) (2 ^ 1074) }
+{
+    if place < 52 {
+        return f64::from_bits(1u64 << place);
+    }
+    f64::from_bits((place as u64 - 51) * 4503599627370496)
+}
