@@ -1,4 +1,4 @@
-/* Savrunte: a proved circuit engine. Link with libsavrunte.a (made by tools/make_archive) and -lm (for fmod).
+/* Savrunte: a proved circuit engine. Link with libsavrunte.a (made by tools/make_archive).
  *
  * Every function is total: it refuses by a number and changes nothing that was lent to it, or it runs and says how it ended.
  * Numbers are listed in docs/NUMBERS.md. A slice is a pointer and then its length in elements; a length of 0 wants a pointer
@@ -10,7 +10,7 @@
  * - The default floating-point environment, as a program starts: round to nearest, no exception traps, subnormal numbers kept
  *   (neither flush-to-zero nor denormals-are-zero, which code linked with -ffast-math can set for the whole process). The archive is
  *   x86-64 code, for a processor of level x86-64-v2 or above, with SSE2 doubles: no x87, so no excess precision, and no fused multiply-add.
- * - Stack. A run (DC, transient, spreads) takes up to 26 KiB, every other call less than 2 KiB. Where the dynamic linker binds fmod,
+ * - Stack. A run (DC, transient, spreads) takes up to 26 KiB, every other call less than 2 KiB. Where the dynamic linker binds
  *   memcpy and memset at their first call, that call takes a few KiB more. Leave 32 KiB.
  * Calls from several threads are safe as long as they share no lent buffer; what is only read may be shared. There is no global
  * state: the archive has no writable data, takes no memory but the stack and the buffers, and keeps nothing between calls.

@@ -15,5 +15,4 @@ fn main() {
     }
     println!("cargo:rustc-link-search=native={}", dir.display());
     println!("cargo:rustc-link-lib=static=savrunte");
-    println!("cargo:rustc-link-lib=m"); // for fmod, the float remainder of the pattern
 }

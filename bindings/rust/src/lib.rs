@@ -9,7 +9,7 @@
 //!   (neither flush-to-zero nor denormals-are-zero, which C code linked with `-ffast-math` can set for the whole process). The
 //!   archive is x86-64 code, for a processor of level x86-64-v2 or above, with SSE2 doubles: no x87, so no excess precision, and no fused multiply-add.
 //! - Stack. A run (DC, transient, spreads) takes up to 26 KiB, every other call less than 2 KiB. Where the dynamic linker binds
-//!   `fmod`, `memcpy` and `memset` at their first call, that call takes a few KiB more. Leave 32 KiB.
+//!   `memcpy` and `memset` at their first call, that call takes a few KiB more. Leave 32 KiB.
 //!
 //! Calls from several threads are safe: there is no global state. That lent buffers overlap neither each other nor what is read,
 //! which the header asks of a C caller, the borrow checker sees to.
