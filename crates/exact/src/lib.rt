@@ -3,18 +3,20 @@
 #![tactic(auto)]
 
 mod limbs; // limbs.rt: a number added to a row of limbs, the carry passed on
-pub mod parts; // parts.rt: a finite float as digits at a place
+mod parts; // parts.rt: a finite float as digits at a place
 
-ghost use Rattle.std.specs.Prelude.{◌≡◌, ◌+◌, ◌^◌, ◌<◌, ◌≤◌, T, length, nat_le, slice_index};
+ghost use Rattle.std.specs.Prelude.{◌≡◌, ◌+◌, ◌*◌, ◌^◌, ◌<◌, ◌≤◌, T, length, nat_le, slice_index};
 ghost use Rattle.std.specs.Float.Ieee.Scale.{finite};
 ghost use Rattle.numbers.specs.Limits.{sum_limbs};
 ghost use Rattle.exact.specs.Limbs.{value, limbs_of};
 ghost use Rattle.num.specs.Literals.{one};
-ghost use Rattle.exact.specs.Exact.{times, size};
+ghost use Rattle.num.specs.Floats.{sign};
+ghost use Rattle.exact.specs.Exact.{times, size, units};
 ghost use Rattle.exact.specs.Kept.{has_room, rows_of, check_of, kept_of, within_of};
-ghost use Rattle.exact.specs.Rows.{Room, Adds};
+ghost use Rattle.exact.specs.Rows.{Room, Adds, Small};
 
 use numbers::limit::SUM_LIMBS;
+pub use parts::Parts;
 
 // The place of a row's topmost limb.
 const TOP: usize = SUM_LIMBS - 1;
@@ -32,6 +34,20 @@ pub enum Kept {
     NoRoom,
     // a row is not 66 limbs long
     WrongLength,
+}
+
+// A float's digits, their place and its sign, if it is finite; an infinity and a NaN have no digits.
+pub fn digits_of(x: f64) -> Parts
+    ensures { T (finite x) → (result.digits * 2 ^ result.place ≡ units x) × Small result.digits result.place × (result.minus ≡ sign x) }
+{
+    if num::finite(x) {
+        return parts::parts_of(x);
+    }
+    Parts {
+        digits: 0,
+        place: 0,
+        minus: false,
+    }
 }
 
 // A row that stands for 0.

@@ -16,8 +16,8 @@ pub fn remainder(x: f64, y: f64) -> f64
     if !num::finite(y) {
         return if y == y { x } else { y };
     }
-    let a = exact::parts::parts_of(x);
-    let b = exact::parts::parts_of(y);
+    let a = exact::digits_of(x);
+    let b = exact::digits_of(y);
     if b.digits == 0 {
         return num::float_of(0x7ff8000000000000);
     }
