@@ -20,9 +20,9 @@ use judge::Judged;
 #[unsafe(no_mangle)]
 pub extern "C" fn judge_row(system: &[f64], vector: &[f64], tolerances: &[f64], rows: usize) -> usize {
     match judge::judge(system, vector, tolerances, rows) {
-        Judged::Accepted => rows,
-        Judged::Rejected(i) => i,
-        Judged::Refused(k) => 1000 + (k as usize),
+        Ok(Judged::Accepted) => rows,
+        Ok(Judged::Rejected(i)) => i,
+        Err(refusal) => 1000 + (refusal.number() as usize),
     }
 }
 R

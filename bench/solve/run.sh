@@ -16,7 +16,10 @@ cat >"$work/crates/door/src/lib.rt" <<'D'
 
 #[unsafe(no_mangle)]
 pub extern "C" fn door_solve(matrix: &mut [f64], vector: &mut [f64], n: usize) -> u8 {
-    solve::solve(matrix, vector, n)
+    match solve::solve(matrix, vector, n) {
+        Ok(()) => 0,
+        Err(refusal) => refusal.number(),
+    }
 }
 D
 (cd "$work/crates/door" && rt lib) | tail -1

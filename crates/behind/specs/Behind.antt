@@ -1,5 +1,5 @@
 -- Which diode is behind. Clients cite caught_up_of, behind_at, first_behind, number_of and behind_number.
-use Rattle.std.specs.Prelude.{ℕ, zero, suc, ◌+◌, Bool, false, cond, not, List, get_or, Float}
+use Rattle.std.specs.Prelude.{ℕ, zero, suc, ◌+◌, Bool, false, cond, not, List, get_or, Float, Option, None, Some}
 use Rattle.std.specs.Float.Ieee as Ieee
 use Rattle.std.specs.Float.{nan, binary64}
 use Rattle.numbers.specs.Kinds.{diode}
@@ -9,8 +9,6 @@ use Rattle.sheet.specs.declared.Element.{Element}
 use Rattle.sheet.specs.declared.Element.TheVariants.{R, I, «V», D, Isin, Vsin, Vpwl, C, Vcvs, Vccs, L}
 use Rattle.sheet.specs.Check.{records_of}
 use Rattle.groups.specs.Records.{record_in, on_record, across}
-use Rattle.behind.specs.declared.Behind.{Behind}
-use Rattle.behind.specs.declared.Behind.TheVariants.{Nowhere, At}
 
 -- the voltage v across a diode is within |v| RELTOL + VNTOL of the last limited one, y. It is asked by "at most", so that no NaN has caught up.
 -- It is the convergence check's own limit for a node.
@@ -36,21 +34,21 @@ unfoldable pub behind_at : Float → Float → List ℕ → List Float → List 
 behind_at reltol vntol sheet x memory i = on_record (diode_behind reltol vntol x (get_or memory i nan)) false (record_in diode diode sheet i)
 
 -- the first of n records from i on for which a test holds
-unfoldable pub first_from : (ℕ → Bool) → ℕ → ℕ → Behind
-first_from test zero i = Nowhere
-first_from test (suc n) i = cond (test i) (At i) (first_from test n (i + 1))
+unfoldable pub first_from : (ℕ → Bool) → ℕ → ℕ → Option ℕ
+first_from test zero i = None
+first_from test (suc n) i = cond (test i) (Some i) (first_from test n (i + 1))
 
 -- the first record of a sheet whose diode is behind, at these two tolerances and at the options' own
-unfoldable pub first_in : Float → Float → List ℕ → List Float → List Float → Behind
+unfoldable pub first_in : Float → Float → List ℕ → List Float → List Float → Option ℕ
 first_in reltol vntol sheet x memory = first_from (behind_at reltol vntol sheet x memory) (records_of sheet) 0
 
-abbrev pub first_behind : Options → List ℕ → List Float → List Float → Behind
+abbrev pub first_behind : Options → List ℕ → List Float → List Float → Option ℕ
 first_behind o sheet x memory = first_in o.reltol o.vntol sheet x memory
 
 -- the number of an answer: 0 for none, else 1 and the record's place
-abbrev pub number_of : Behind → ℕ
-number_of Nowhere = 0
-number_of (At i) = i + 1
+abbrev pub number_of : Option ℕ → ℕ
+number_of None = 0
+number_of (Some i) = i + 1
 
 unfoldable pub behind_number : Options → List ℕ → List Float → List Float → ℕ
 behind_number o sheet x memory = number_of (first_behind o sheet x memory)

@@ -3,22 +3,15 @@
 #![tactic(auto)]
 
 ghost use Rattle.std.specs.Prelude.{◌≡◌};
-ghost use Rattle.behind.specs.Behind.{caught_up_of, diode_behind, behind_at, first_in, first_behind, number_of, behind_number};
+ghost use Rattle.behind.specs.Behind.{caught_up_of, diode_behind, behind_at, first_in, first_behind, behind_number};
 
 use groups::records::{across, number_at, record_of};
-use numbers::kind::DIODE;
+use numbers::kind::Kind;
 use options::Options;
-use sheet::{Decoded, Element};
+use sheet::Element;
 
-// The first record whose diode is behind, if there is one.
-#[derive(Drop)]
-pub enum Behind {
-    Nowhere,
-    At(usize),
-}
-
-// The first record of a sheet whose diode is behind at this vector, with this memory.
-pub fn first_behind(o: Options, sheet: &[u8], vector: &[f64], memory: &[f64]) -> Behind
+// The first record of a sheet whose diode is behind at this vector, with this memory, if there is one.
+pub fn first_behind(o: Options, sheet: &[u8], vector: &[f64], memory: &[f64]) -> Option<usize>
     ensures { result ≡ first_behind o sheet.now vector.now memory.now }
 {
     first_in(o.reltol, o.vntol, sheet, vector, memory)
@@ -28,7 +21,10 @@ pub fn first_behind(o: Options, sheet: &[u8], vector: &[f64], memory: &[f64]) ->
 pub fn behind_number(o: Options, sheet: &[u8], vector: &[f64], memory: &[f64]) -> u64
     ensures { result ≡ behind_number o sheet.now vector.now memory.now }
 {
-    number_in(o.reltol, o.vntol, sheet, vector, memory)
+    match first_in(o.reltol, o.vntol, sheet, vector, memory) {
+        None => 0,
+        Some(i) => i as u64 + 1,
+    }
 }
 
 // Whether a diode with the voltage v across it, last limited to y, has caught up.
@@ -38,33 +34,29 @@ pub fn caught_up(reltol: f64, vntol: f64, v: f64, y: f64) -> bool
     num::absolute(v - y) <= num::absolute(v) * reltol + vntol
 }
 
-// The number at these two tolerances: every run asks for it, and two floats are handed on more cheaply than all options.
-fn number_in(reltol: f64, vntol: f64, sheet: &[u8], vector: &[f64], memory: &[f64]) -> u64
-    ensures { result ≡ number_of (first_in reltol vntol sheet.now vector.now memory.now) }
-{
-    let b = first_in(reltol, vntol, sheet, vector, memory);
-    let Behind::At(i) = b else {
-        return 0;
-    };
-    i as u64 + 1
-}
-
-// The first record at these two tolerances. One of another kind is passed by on its kind byte: most circuits have few diodes.
-fn first_in(reltol: f64, vntol: f64, sheet: &[u8], vector: &[f64], memory: &[f64]) -> Behind
+// The first record at these two tolerances: every run asks for it, and two floats are handed on more cheaply than all options.
+fn first_in(reltol: f64, vntol: f64, sheet: &[u8], vector: &[f64], memory: &[f64]) -> Option<usize>
     ensures { result ≡ first_in reltol vntol sheet.now vector.now memory.now }
 {
-    let count = sheet::records(sheet);
-    for i in 0..count {
-        if sheet::kind_at(sheet, i) == DIODE {
-            if behind_at(reltol, vntol, sheet, i, vector, memory) {
-                return Behind::At(i);
-            }
-        }
-    }
-    Behind::Nowhere
+    (0..sheet::records(sheet)).find(|&i| is_behind(reltol, vntol, sheet, i, vector, memory))
 }
 
-// Whether record i is a diode that is behind.
+// Whether record i is a diode that is behind. One of another kind is passed by on its kind byte: most circuits have few diodes.
+fn is_behind(
+    reltol: f64,
+    vntol: f64,
+    sheet: &[u8],
+    i: usize,
+    vector: &[f64],
+    memory: &[f64],
+) -> bool
+    ensures { result ≡ behind_at reltol vntol sheet.now vector.now memory.now i }
+{
+    sheet::kind_at(sheet, i) == Kind::Diode.number()
+        && behind_at(reltol, vntol, sheet, i, vector, memory)
+}
+
+// Whether record i decodes to a diode that is behind.
 fn behind_at(
     reltol: f64,
     vntol: f64,
@@ -75,8 +67,7 @@ fn behind_at(
 ) -> bool
     ensures { result ≡ behind_at reltol vntol sheet.now vector.now memory.now i }
 {
-    let d = record_of(sheet, i, DIODE);
-    let Decoded::Good(e) = d else {
+    let Ok(e) = record_of(sheet, i, Kind::Diode) else {
         return false;
     };
     diode_behind(reltol, vntol, e, vector, number_at(memory, i))

@@ -1,13 +1,12 @@
--- Refusals 1 to 10 in their order. Clients cite sizes_refusal, checked_of, order, cells, records and limits_of.
-use Rattle.std.specs.Prelude.{ℕ, ◌+◌, ◌*◌, ◌/◌, Bool, cond, ◌||◌, ◌&&◌, List, eqb, ltb}
+-- Refusals 1 to 10 in their order. Clients cite sizes_fault, sizes_refusal, checked_of, order, cells, records and limits_of.
+use Rattle.std.specs.Prelude.{ℕ, ◌+◌, ◌*◌, ◌/◌, Bool, cond, ◌||◌, ◌&&◌, List, eqb, ltb, Result, Ok, Err, ⊤}
 use Rattle.numbers.specs.Limits.{most_unknowns, most_passes, most_budget}
 use Rattle.numbers.specs.Refusals.{by_order, by_sheet, by_points, by_counts, by_room}
 use Rattle.options.specs.declared.Options.{Options}
 use Rattle.sheet.specs.declared.Limits.{Limits}
-use Rattle.sheet.specs.declared.Checked.{Checked}
-use Rattle.sheet.specs.declared.Checked.TheVariants.{Faulty}
+use Rattle.numbers.specs.declared.refusal.Refusal.{Refusal}
 use Rattle.sheet.specs.Record.{record_bytes}
-use Rattle.sheet.specs.Check.{point_bytes, bad_sheet, bad_points, check_of}
+use Rattle.sheet.specs.Check.{Checked, point_bytes, bad_sheet, bad_points, check_of, ends_at}
 use Rattle.checks.specs.declared.Sizes.{Sizes}
 
 -- N: nodes (ground included) plus sources
@@ -42,7 +41,20 @@ short_vector z = ltb z.vector (order z) || ltb z.memory (records z)
 unfoldable pub bad_room : Sizes → Bool
 bad_room z = short_matrix z || short_vector z || (z.transient && ltb z.rows (order z + 1))
 
--- the first of 1 to 5 that holds, in this order; 0 where none does
+-- the first of 1 to 5 that holds, in this order
+abbrev pub or_else : Bool → Refusal → Result ⊤ Refusal → Result ⊤ Refusal
+or_else bad k rest = cond bad (Err k) rest
+
+unfoldable pub sizes_fault : Options → Sizes → Result ⊤ Refusal
+sizes_fault o z =
+    or_else (bad_order z.nodes z.sources) Refusal.Order
+    (or_else (bad_sheet z.sheet) Refusal.Sheet
+    (or_else (bad_points z.points) Refusal.Points
+    (or_else (bad_counts o) Refusal.Counts
+    (or_else (bad_room z) Refusal.Room
+    (Ok tt)))))
+
+-- its number; 0 where none does
 unfoldable pub sizes_refusal : Options → Sizes → ℕ
 sizes_refusal o z =
     cond (bad_order z.nodes z.sources) by_order
@@ -58,4 +70,4 @@ limits_of z = record { nodes = z.nodes; sources = z.sources; points = z.points /
 
 -- 1 to 5 with place 0, then the sheet's 6 to 10 with the record's
 unfoldable pub checked_of : Options → Sizes → List ℕ → Checked
-checked_of o z sheet = cond (eqb (sizes_refusal o z) 0) (check_of sheet (limits_of z)) (Faulty (sizes_refusal o z) 0)
+checked_of o z sheet = ends_at 0 (sizes_fault o z) (check_of sheet (limits_of z))

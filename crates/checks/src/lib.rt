@@ -4,14 +4,15 @@
 
 ghost use Rattle.std.specs.Prelude.{◌≡◌, ◌+◌, ◌≤◌};
 ghost use Rattle.numbers.specs.Limits.{most_unknowns};
-ghost use Rattle.checks.specs.Checks.{bad_order, bad_counts, bad_room, sizes_refusal, checked_of};
+ghost use Rattle.checks.specs.Checks.{bad_order, bad_counts, bad_room, sizes_fault, checked_of};
 
 use numbers::limit;
+use numbers::refusal::Refusal;
 use options::Options;
-use sheet::{Checked, Limits};
+use sheet::{Fault, Limits};
 
 // The counts of a run and the lengths of what is lent to it. A DC run has no rows: `transient` tells whether `rows` counts.
-#[derive(Clone, Copy)]
+#[derive(Clone, Copy, Debug, PartialEq, Eq, Hash)]
 pub struct Sizes {
     pub nodes: usize,
     pub sources: usize,
@@ -26,14 +27,11 @@ pub struct Sizes {
     pub transient: bool,
 }
 
-// Clean, or the first refusal of 1 to 10 with its place.
-pub fn check(o: Options, z: Sizes, sheet: &[u8]) -> Checked
+// The first refusal of 1 to 10 with its place, if there is one.
+pub fn check(o: Options, z: Sizes, sheet: &[u8]) -> Result<(), Fault>
     ensures { result ≡ checked_of o z sheet.now }
 {
-    let k = refusal(o, z);
-    if k != 0 {
-        return Checked::Faulty(k, 0);
-    }
+    refusal(o, z).map_err(|refusal| Fault { refusal, place: 0 })?;
     let l = Limits {
         nodes: z.nodes,
         sources: z.sources,
@@ -42,26 +40,26 @@ pub fn check(o: Options, z: Sizes, sheet: &[u8]) -> Checked
     sheet::check_sheet(sheet, l)
 }
 
-// The refusal, 1 to 5, or 0 where there is none.
-pub fn refusal(o: Options, z: Sizes) -> u8
-    ensures { result ≡ sizes_refusal o z }
+// The first refusal of 1 to 5, if there is one.
+pub fn refusal(o: Options, z: Sizes) -> Result<(), Refusal>
+    ensures { result ≡ sizes_fault o z }
 {
     if bad_order(z.nodes, z.sources) {
-        return numbers::refusal::ORDER;
+        return Err(Refusal::Order);
     }
     if sheet::bad_sheet(z.sheet) {
-        return numbers::refusal::SHEET;
+        return Err(Refusal::Sheet);
     }
     if sheet::bad_points(z.points) {
-        return numbers::refusal::POINTS;
+        return Err(Refusal::Points);
     }
     if bad_counts(o) {
-        return numbers::refusal::COUNTS;
+        return Err(Refusal::Counts);
     }
     if bad_room(z) {
-        return numbers::refusal::ROOM;
+        return Err(Refusal::Room);
     }
-    0
+    Ok(())
 }
 
 // Whether counts are refused by 1. Their sum is never formed where it could wrap.
@@ -75,6 +73,7 @@ pub fn bad_order(nodes: usize, sources: usize) -> bool
 }
 
 // Whether the limits and the budget are refused by 4.
+#[tactic(auto, unfolding(crate::specs::Checks::bad_counts))]
 pub fn bad_counts(o: Options) -> bool
     ensures { result ≡ bad_counts o }
 {

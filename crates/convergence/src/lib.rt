@@ -1,13 +1,14 @@
 // The convergence check: whether a solved vector agrees with the one before it. The Rust's `convergence_check`.
 #![tactic(auto)]
 
-ghost use Rattle.std.specs.Prelude.{◌≡◌, ◌≤◌, length};
-ghost use Rattle.convergence.specs.Convergence.{limit as limitOf, place as place_of, checked, convergence_of};
+ghost use Rattle.std.specs.Prelude.{◌≡◌};
+ghost use Rattle.convergence.specs.Convergence.{limit as limitOf, place as place_of, convergence_of};
 
 use num::{absolute, finite};
 use options::Options;
 
-#[derive(Drop)]
+// kept: four answers in one enum, since whoever asks for a verdict matches all four, and "no" and "error" are as much answers as "yes".
+#[derive(Clone, Copy, Debug, PartialEq, Eq)]
 pub enum Convergence {
     Yes,
     No,
@@ -23,17 +24,9 @@ pub fn convergence_check(x: &[f64], y: &[f64], nodes: usize, o: Options) -> Conv
     if y.len() < x.len() {
         return Convergence::Refused;
     }
-    check(x, y, nodes, o)
-}
-
-// The check of as many places as x has.
-fn check(x: &[f64], y: &[f64], nodes: usize, o: Options) -> Convergence
-    requires { length x.now ≤ length y.now }
-    ensures { result ≡ checked x.now y.now nodes o }
-{
     let mut r = Convergence::Yes;
-    for i in 0..x.len() {
-        r = place(x[i], y[i], i < nodes, o, r);
+    for (i, v) in x.iter().enumerate() {
+        r = place(*v, y[i], i < nodes, o, r);
     }
     r
 }
@@ -42,22 +35,20 @@ fn check(x: &[f64], y: &[f64], nodes: usize, o: Options) -> Convergence
 fn place(x: f64, y: f64, node: bool, o: Options, r: Convergence) -> Convergence
     ensures { result ≡ place_of x y node o r }
 {
-    if finite(x) {
-        if limit(x, node, o) < absolute(x - y) {
-            return Convergence::No;
-        }
-        return r;
+    if !finite(x) {
+        return Convergence::Error;
     }
-    Convergence::Error
+    if limit(x, node, o) < absolute(x - y) {
+        Convergence::No
+    } else {
+        r
+    }
 }
 
 // The difference that x may have.
 pub fn limit(x: f64, node: bool, o: Options) -> f64
     ensures { result ≡ limitOf x node o }
 {
-    let t = absolute(x) * o.reltol;
-    if node {
-        return t + o.vntol;
-    }
-    t + o.abstol
+    let least = if node { o.vntol } else { o.abstol };
+    absolute(x) * o.reltol + least
 }

@@ -6,11 +6,11 @@ mod limbs; // limbs.rt: a long number times and over a small one
 mod scale; // scale.rt: a number of quarter steps of a float, cut to a whole number of decimal units
 mod shortest; // shortest.rt: of the decimal numbers that read back to a float the one with the fewest digits
 
-ghost use Rattle.std.specs.Prelude.{◌≡◌, ◌&&◌, ◌+◌, ◌*◌, ◌^◌, ◌<◌, eqb, ltb};
+ghost use Rattle.std.specs.Prelude.{◌≡◌, ◌^◌, ◌<◌};
 ghost use Rattle.decimal.specs.Decimal.{decimal_of, of_pattern, steps_of};
 
 // A float in decimal: digits times 10^(place - 326) with its sign.
-#[derive(Clone, Copy)]
+#[derive(Clone, Copy, Debug, PartialEq, Eq)]
 pub enum Decimal {
     Nan,
     Infinite {
@@ -22,6 +22,11 @@ pub enum Decimal {
         place: u64,
     },
 }
+
+// The bit of the sign, and that of a number's leading digit, which is not stored.
+const SIGN: u64 = 1 << 63;
+
+const LEADING: u64 = 1 << 52;
 
 // The decimal number that stands for x: the first that reads back to x, tried from one digit on. That it reads back is the law reads_back.
 pub fn decimal_of(x: f64) -> Decimal
@@ -37,28 +42,24 @@ pub fn decimal_of(x: f64) -> Decimal
 fn of_pattern(bits: u64) -> Decimal
     ensures { result ≡ of_pattern bits }
 {
-    let minus = 9223372036854775808 <= bits;
-    let field = bits % 9223372036854775808 / 4503599627370496;
-    let low = bits % 4503599627370496;
+    let minus = SIGN <= bits;
+    let field = bits % SIGN / LEADING;
+    let low = bits % LEADING;
     if field == 2047 {
-        return Decimal::Infinite { minus: minus };
+        return Decimal::Infinite { minus };
     }
     if field == 0 {
         if low == 0 {
             return Decimal::Finite {
-                minus: minus,
+                minus,
                 digits: 0,
                 place: 326,
             };
         }
         return of_steps(minus, 1, low, false);
     }
-    of_steps(
-        minus,
-        field,
-        4503599627370496 + low,
-        power_of_two(low, field),
-    )
+    // A power of two, with floats of a smaller exponent below it, is narrow.
+    of_steps(minus, field, LEADING + low, (low == 0) & (1 < field))
 }
 
 // m steps of the floats whose exponent's field is b.
@@ -68,15 +69,8 @@ fn of_steps(minus: bool, b: u64, m: u64, narrow: bool) -> Decimal
 {
     let n = shortest::shortest(shortest::span_of(b, m, narrow), scale::place_of(b));
     Decimal::Finite {
-        minus: minus,
+        minus,
         digits: n.digits,
         place: n.place,
     }
-}
-
-// Whether the digits are a power of two, with floats of a smaller exponent below it.
-fn power_of_two(low: u64, field: u64) -> bool
-    ensures { result ≡ (eqb low 0 && ltb 1 field) }
-{
-    if low == 0 { 1 < field } else { false }
 }

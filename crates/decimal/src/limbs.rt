@@ -1,14 +1,17 @@
 // A long number, as limbs of 32 bits, the lowest first: times a small number, over a small number, and again.
-ghost use Rattle.std.specs.Prelude.{◌≡◌, ◌+◌, ◌*◌, ◌/◌, ◌%◌, ◌^◌, ◌<◌, eqb, ◌&&◌, length};
+ghost use Rattle.std.specs.Prelude.{◌≡◌, ◌+◌, ◌*◌, ◌/◌, ◌%◌, ◌^◌, ◌<◌, eqb, length};
 ghost use Rattle.decimal.specs.Limbs.{value, Few, Holds, Divided};
+
+// One more than the most that a limb holds.
+const BASE: u64 = 1 << 32;
 
 // The limbs of a: 1,152 bits hold every number that a float's digits pass through.
 pub fn limbs_of(a: u64) -> [u64; 36]
     ensures { Holds 36 result a }
 {
-    let mut l = blank();
-    l[0] = a % 4294967296;
-    l[1] = a / 4294967296;
+    let mut l = [0; 36];
+    l[0] = a % BASE;
+    l[1] = a / BASE;
     l
 }
 
@@ -17,7 +20,7 @@ pub fn number_of(l: &[u64]) -> u64
     requires { (1 < length l.now) × Few l.now × (value l.now < 2 ^ 64) }
     ensures { result ≡ value l.now }
 {
-    l[0] + 4294967296 * l[1]
+    l[0] + BASE * l[1]
 }
 
 // Times k, n times over.
@@ -37,7 +40,7 @@ pub fn over_power(l: &mut [u64], d: u64, n: u64) -> bool
 {
     let mut even = true;
     for i in 0..n {
-        even = still(over(l, d), even);
+        even &= over(l, d) == 0;
     }
     even
 }
@@ -48,10 +51,10 @@ fn times(l: &mut [u64], k: u64)
     ensures { Holds (length l.old) l.new (value l.old * k) }
 {
     let mut carry: u64 = 0;
-    for i in 0..l.len() {
-        let t = l[i] * k + carry;
-        l[i] = t % 4294967296;
-        carry = t / 4294967296;
+    for limb in l.iter_mut() {
+        let t = *limb * k + carry;
+        *limb = t % BASE;
+        carry = t / BASE;
     }
 }
 
@@ -61,25 +64,10 @@ fn over(l: &mut [u64], d: u64) -> u64
     ensures { Divided l.old d result l.new }
 {
     let mut left: u64 = 0;
-    let mut i = l.len();
-    while 0 < i {
-        i -= 1;
-        let t = left * 4294967296 + l[i];
+    for i in (0..l.len()).rev() {
+        let t = left * BASE + l[i];
         l[i] = t / d;
         left = t % d;
     }
     left
-}
-
-// Whether all divisions, this one too, came out even.
-fn still(left: u64, even: bool) -> bool
-    ensures { result ≡ (eqb left 0 && even) }
-{
-    if left == 0 { even } else { false }
-}
-
-fn blank() -> [u64; 36]
-    ensures { Holds 36 result 0 }
-{
-    [0; 36]
 }

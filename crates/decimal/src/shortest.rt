@@ -1,11 +1,12 @@
 // Of the decimal numbers next to a float, tried from one digit on and the nearer first, the first that reads back to it.
-ghost use Rattle.std.specs.Prelude.{◌≡◌, Bool, cond, ◌&&◌, ◌+◌, ◌-◌, ◌*◌, ◌/◌, ◌%◌, ◌^◌, ◌<◌, ◌≤◌, eqb, leb};
+ghost use Rattle.std.specs.Prelude.{◌≡◌, ◌*◌, ◌^◌, ◌<◌, unwrap_or};
 ghost use Rattle.decimal.specs.Shortest.{Fair, span_of, low_edge, least_of, most_of, inside_of, up_first, first_in, candidate_of, number_of};
 
+use super::scale;
 use super::scale::Cut;
 
 // The decimal units that a float comes to, cut to a whole number, whether that is all of it, and the least and the most units that read back to it.
-#[derive(Clone, Copy)]
+#[derive(Clone, Copy, Debug, PartialEq, Eq)]
 pub struct Span {
     pub whole: u64,
     pub even: bool,
@@ -14,7 +15,7 @@ pub struct Span {
 }
 
 // digits times 10^(place - 326).
-#[derive(Drop)]
+#[derive(Clone, Copy, Debug, PartialEq, Eq)]
 pub struct Number {
     pub digits: u64,
     pub place: u64,
@@ -25,9 +26,9 @@ pub fn span_of(b: u64, m: u64, narrow: bool) -> Span
     requires { (0 < b) × (b < 2047) × (0 < m) × (m < 2 ^ 53) }
     ensures { result ≡ span_of b m narrow }
 {
-    let middle = super::scale::cut_at(b, 4 * m);
-    let below = super::scale::cut_at(b, low_edge(m, narrow));
-    let above = super::scale::cut_at(b, 4 * m + 2);
+    let middle = scale::cut_at(b, 4 * m);
+    let below = scale::cut_at(b, low_edge(m, narrow));
+    let above = scale::cut_at(b, 4 * m + 2);
     Span {
         whole: middle.whole,
         even: middle.even,
@@ -36,27 +37,26 @@ pub fn span_of(b: u64, m: u64, narrow: bool) -> Span
     }
 }
 
-// The number with the fewest digits, tried from one digit on.
+// The number with the fewest digits, tried from one digit on; 0 has none.
 pub fn shortest(s: Span, place: u64) -> Number
     requires { Fair s × (place < 1000) }
     ensures { result ≡ number_of s place 18 }
 {
-    let mut k: u64 = 18;
     let mut t: u64 = 1000000000000000000;
-    while 0 < k {
-        let d = candidate(s, t);
-        if d != 0 {
+    for k in (1..19).rev() {
+        if let Some(digits) = candidate(s, t)
+            && 0 < digits
+        {
             return Number {
-                digits: d,
+                digits,
                 place: place + k,
             };
         }
         t /= 10;
-        k -= 1;
     }
     Number {
         digits: s.whole,
-        place: place,
+        place,
     }
 }
 
@@ -73,11 +73,7 @@ fn least_of(c: Cut, even: bool) -> u64
     requires { c.whole < 2 ^ 63 }
     ensures { result ≡ least_of c even }
 {
-    if even {
-        if c.even { c.whole } else { c.whole + 1 }
-    } else {
-        c.whole + 1
-    }
+    if even && c.even { c.whole } else { c.whole + 1 }
 }
 
 // The most up to the upper edge.
@@ -85,17 +81,17 @@ fn most_of(c: Cut, even: bool) -> u64
     requires { 0 < c.whole }
     ensures { result ≡ most_of c even }
 {
-    if even {
-        c.whole
+    if !even && c.even {
+        c.whole - 1
     } else {
-        if c.even { c.whole - 1 } else { c.whole }
+        c.whole
     }
 }
 
-// Of the two multiples of t next to the float, the one that reads back, the nearer first, over t; 0 where neither does.
-fn candidate(s: Span, t: u64) -> u64
+// Of the two multiples of t next to the float, the one that reads back, the nearer first, over t.
+fn candidate(s: Span, t: u64) -> Option<u64>
     requires { Fair s × (0 < t) × (t < 2 ^ 60) }
-    ensures { result ≡ candidate_of s t }
+    ensures { unwrap_or result 0 ≡ candidate_of s t }
 {
     let d = s.whole / t;
     if up_first(s, t) {
@@ -120,22 +116,22 @@ fn up_first(s: Span, t: u64) -> bool
     t < 2 * rest
 }
 
-// p if p times t reads back, else q if q times t does, else 0.
-fn first_in(s: Span, t: u64, p: u64, q: u64) -> u64
+// p if p times t reads back, else q if q times t does.
+fn first_in(s: Span, t: u64, p: u64, q: u64) -> Option<u64>
     requires { (p * t < 2 ^ 64) × (q * t < 2 ^ 64) }
-    ensures { result ≡ first_in s t p q }
+    ensures { unwrap_or result 0 ≡ first_in s t p q }
 {
     if inside(s, p * t) {
-        return p;
+        Some(p)
+    } else if inside(s, q * t) {
+        Some(q)
+    } else {
+        None
     }
-    if inside(s, q * t) {
-        return q;
-    }
-    0
 }
 
 fn inside(s: Span, d: u64) -> bool
     ensures { result ≡ inside_of s d }
 {
-    if s.least <= d { d <= s.most } else { false }
+    s.least <= d && d <= s.most
 }

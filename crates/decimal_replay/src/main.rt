@@ -4,6 +4,7 @@
 #![tactic(auto)]
 
 use decimal::Decimal;
+use std::fmt;
 use std::io::Read;
 
 // Floats that are read at most.
@@ -14,21 +15,14 @@ const SIXTEEN: u64 = 1000000000000000;
 
 const SEVENTEEN: u64 = 10000000000000000;
 
-#[derive(Drop)]
-struct Stored {
-    digits: u64,
-    place: u64,
-    kind: u64,
-}
-
-#[derive(Drop)]
-enum Outcome {
-    Same(Decimal),
-    Differs,
-    End,
-}
-
+// A float, and what is stored for it; none where the kind is no kind.
 #[derive(Clone, Copy)]
+struct Record {
+    float: f64,
+    stored: Option<Decimal>,
+}
+
+#[derive(Clone, Copy, Default)]
 struct Tally {
     none: u64,
     fewer: u64,
@@ -37,126 +31,81 @@ struct Tally {
     differ: u64,
 }
 
-fn main(rt: HostRuntime) {
-    if let Some(mut floats) = reading::open_argument(&rt, 1) {
-        report(&rt, replay(&rt, &mut floats));
+impl Tally {
+    // Counts a float that is written as it is stored.
+    fn count(&mut self, d: Decimal) {
+        let counter = match d {
+            Decimal::Nan | Decimal::Infinite { .. } => &mut self.none,
+            Decimal::Finite { digits, .. } if digits < SIXTEEN => &mut self.fewer,
+            Decimal::Finite { digits, .. } if digits < SEVENTEEN => &mut self.sixteen,
+            Decimal::Finite { .. } => &mut self.seventeen,
+        };
+        *counter = counter.wrapping_add(1);
+    }
+
+    fn count_differing(&mut self) {
+        self.differ = self.differ.wrapping_add(1);
     }
 }
 
+impl fmt::Display for Tally {
+    fn fmt<W: fmt::Write>(&self, f: &mut fmt::Formatter<W>) -> fmt::Result {
+        writeln!(f, "up to 15 digits {}", self.fewer)?;
+        writeln!(f, "16 digits {}", self.sixteen)?;
+        writeln!(f, "17 digits {}", self.seventeen)?;
+        writeln!(f, "infinite or NaN {}", self.none)?;
+        writeln!(f, "differ {}", self.differ)
+    }
+}
+
+fn main(rt: HostRuntime) {
+    if let Some(mut floats) = reading::open_argument(&rt, 1) {
+        let _ = print!(rt; "{}", replay(&rt, &mut floats));
+    }
+}
+
+// Replays record after record, to the end of the file.
 fn replay<P: Print, R: Read>(rt: &P, from: &mut R) -> Tally {
-    let mut t = Tally {
-        none: 0,
-        fewer: 0,
-        sixteen: 0,
-        seventeen: 0,
-        differ: 0,
-    };
+    let mut t = Tally::default();
     for place in 0..FLOATS {
-        let o = one(from);
-        if let Outcome::End = o {
-            return t;
+        let Some(record) = next_record(from) else {
+            break;
+        };
+        let d = decimal::decimal_of(record.float);
+        if record.stored == Some(d) {
+            t.count(d);
+        } else {
+            t.count_differing();
+            let _ = println!(rt; "differs: {place}");
         }
-        if let Outcome::Differs = o {
-            name(rt, place);
-        }
-        t = counted(t, o);
     }
     t
 }
 
-// Reads the next float and writes it in decimal; a file that ends is the end.
-fn one<R: Read>(from: &mut R) -> Outcome {
+// Reads the next record; none where the file ends before it does.
+fn next_record<R: Read>(from: &mut R) -> Option<Record> {
     let mut b = [0u8; 24];
     if reading::read_full(from, &mut b) != 24 {
-        return Outcome::End;
+        return None;
     }
-    compared(decimal::decimal_of(num::f64_at(&b, 0)), stored_at(&b))
+    Some(Record {
+        float: num::f64_at(&b, 0),
+        stored: stored_at(&b),
+    })
 }
 
-fn stored_at(b: &[u8]) -> Stored {
-    Stored {
-        digits: num::u64_at(b, 8),
-        place: num::u32_at(b, 16) as u64,
-        kind: num::u32_at(b, 20) as u64,
-    }
-}
-
-fn compared(d: Decimal, s: Stored) -> Outcome {
-    if same(d, s) {
-        Outcome::Same(d)
-    } else {
-        Outcome::Differs
-    }
-}
-
-fn same(d: Decimal, s: Stored) -> bool {
-    match d {
-        Decimal::Nan => s.kind == 4,
-        Decimal::Infinite { minus } => s.kind == kind_of(2, minus),
-        Decimal::Finite {
+// What a record has beside its float.
+fn stored_at(b: &[u8]) -> Option<Decimal> {
+    let kind = num::u32_at(b, 20);
+    let minus = kind % 2 == 1;
+    match kind {
+        0 | 1 => Some(Decimal::Finite {
             minus,
-            digits,
-            place,
-        } => s.kind == kind_of(0, minus) && s.digits == digits && s.place == place,
+            digits: num::u64_at(b, 8),
+            place: num::u32_at(b, 16) as u64,
+        }),
+        2 | 3 => Some(Decimal::Infinite { minus }),
+        4 => Some(Decimal::Nan),
+        _ => None,
     }
-}
-
-fn kind_of(plus: u64, minus: bool) -> u64 {
-    if minus { next(plus) } else { plus }
-}
-
-fn counted(t: Tally, o: Outcome) -> Tally {
-    match o {
-        Outcome::Same(d) => match d {
-            Decimal::Nan => one_none(t),
-            Decimal::Infinite { .. } => one_none(t),
-            Decimal::Finite { digits, .. } => one_number(t, digits),
-        },
-        Outcome::Differs => one_differs(t),
-        Outcome::End => t,
-    }
-}
-
-fn one_none(t: Tally) -> Tally {
-    let mut c = t;
-    c.none = next(t.none);
-    c
-}
-
-fn one_differs(t: Tally) -> Tally {
-    let mut c = t;
-    c.differ = next(t.differ);
-    c
-}
-
-fn one_number(t: Tally, digits: u64) -> Tally {
-    let mut c = t;
-    if digits < SIXTEEN {
-        c.fewer = next(t.fewer);
-    } else if digits < SEVENTEEN {
-        c.sixteen = next(t.sixteen);
-    } else {
-        c.seventeen = next(t.seventeen);
-    }
-    c
-}
-
-fn next(n: u64) -> u64 {
-    std::num::wrapping_add_u64(n, 1)
-}
-
-fn name<P: Print>(rt: &P, place: u64) {
-    let _ = println!(rt; "differs: {place}");
-}
-
-fn report<P: Print>(rt: &P, t: Tally) {
-    line(rt, "up to 15 digits ", t.fewer);
-    line(rt, "16 digits ", t.sixteen);
-    line(rt, "17 digits ", t.seventeen);
-    line(rt, "infinite or NaN ", t.none);
-    line(rt, "differ ", t.differ);
-}
-
-fn line<P: Print>(rt: &P, what: &str, n: u64) {
-    let _ = println!(rt; "{what}{n}");
 }

@@ -1,8 +1,8 @@
--- A whole call, DC or transient: what is refused, what it answers, and what stands in each lent buffer afterwards. Clients cite Call, call_of, Result, result_of, run_of and Scratched.
+-- A whole call, DC or transient: what is refused, what it answers, and what stands in each lent buffer afterwards. Clients cite Call, call_of, call_in, Result, result_of, run_of and Scratched.
 use Rattle.std.specs.Prelude.{ℕ, ◌≡◌, Bool, List, ◌++◌, length, take, drop, Float}
 use Rattle.options.specs.declared.Options.{Options}
-use Rattle.sheet.specs.declared.Checked.{Checked}
-use Rattle.sheet.specs.declared.Checked.TheVariants.{Clean, Faulty}
+use Rattle.sheet.specs.Check.{Checked}
+use Rattle.std.specs.declared.result.Result.TheVariants.{Ok, Err}
 use Rattle.sheet.specs.Check.{number_of, place_of}
 use Rattle.checks.specs.declared.Sizes.{Sizes}
 use Rattle.checks.specs.Checks.{order, cells, records, checked_of}
@@ -11,6 +11,7 @@ use Rattle.steps.specs.declared.Job.{Job}
 use Rattle.steps.specs.Counters.{verdict_of, dc_verdict_of}
 use Rattle.machine.specs.State.{Buffers, buffers_of, State}
 use Rattle.passes.specs.Attempt.{Circuit, circuit_of}
+use Rattle.engine.specs.declared.Input.{Input}
 use Rattle.engine.specs.declared.Outcome.{Outcome}
 use Rattle.engine.specs.declared.Outcome.TheVariants.{Refused, Ended}
 use Rattle.engine.specs.Work.{end_of, behind_in}
@@ -29,6 +30,10 @@ pub record Call : Type 0 where
 abbrev pub call_of : Options → Bool → ℕ → ℕ → List ℕ → List ℕ → List Float → Buffers → Call
 call_of o transient nodes sources sheet points e x =
     record { job = record { options = o; nodes = nodes; transient = transient }; sources = sources; sheet = sheet; points = points; elimination = e; lent = x }
+
+-- the same from what it is called with
+abbrev pub call_in : Input → Bool → List Float → Buffers → Call
+call_in i transient e x = call_of i.options transient i.nodes i.sources i.sheet.now i.points.now e x
 
 -- the counts of a call and the lengths of what is lent to it
 abbrev pub sizes : Call → Sizes
@@ -92,8 +97,8 @@ laid z x y =
 
 -- a refusal "changes no buffer"
 abbrev pub unless : Checked → Result → Result → Result
-unless Clean done kept = done
-unless (Faulty k i) done kept = kept
+unless (Ok u) done kept = done
+unless (Err f) done kept = kept
 
 -- the whole
 unfoldable pub run_of : Call → Result
@@ -105,4 +110,4 @@ run_of c =
 -- "The elimination matrix is scratch": nothing past its length changes, and nothing at all where the call is refused
 pub record Scratched (c : Call) (x : List Float) : Type 0 where
   pub rest : drop (cells (sizes c)) x ≡ drop (cells (sizes c)) c.elimination
-  pub kept : (checked_call c ≡ Clean → ⊥) → x ≡ c.elimination
+  pub kept : (checked_call c ≡ Ok tt → ⊥) → x ≡ c.elimination

@@ -1,5 +1,5 @@
 -- The work of a run on buffers of the very lengths. Clients cite base_on, end_of and behind_in.
-use Rattle.std.specs.Prelude.{ℕ, ◌+◌, ◌*◌, ◌≤◌, ◌≡◌, List, replicate, Float}
+use Rattle.std.specs.Prelude.{ℕ, ◌+◌, ◌*◌, ◌≤◌, ◌≡◌, List, length, replicate, Float}
 use Rattle.numbers.specs.Limits.{most_unknowns}
 use Rattle.num.specs.Floats.{nought}
 use Rattle.options.specs.declared.Options.{Options}
@@ -9,6 +9,7 @@ use Rattle.steps.specs.Counters.{started}
 use Rattle.groups.specs.Stamping.{base_of}
 use Rattle.machine.specs.State.{Buffers, buffers_of, State, state_of}
 use Rattle.machine.specs.Machine.{run_for}
+use Rattle.passes.specs.declared.Buffers.{Buffers as Lent}
 use Rattle.passes.specs.Attempt.{Circuit, attempt_of}
 use Rattle.engine.specs.Begin.{forgotten}
 
@@ -43,6 +44,9 @@ pub record Fit (n base elimination system : ℕ) : Type 0 where
   pub bases : base ≡ n * (n + 1)
   pub works : elimination ≡ n * (n + 1)
   pub systems : system ≡ n * (n + 1)
+
+abbrev pub FitIn : Lent → Type 0
+FitIn w = Fit (length w.vector.now) (length w.base.now) (length w.elimination.now) (length w.system.now)
 
 -- what a run leaves to its caller: the accepted vector is the run's own
 pub record Handover : Type 0 where

@@ -4,29 +4,25 @@ ghost use Rattle.loops.specs.Loop.{zeros_like};
 ghost use Rattle.groups.specs.Stamping.{base_of};
 ghost use Rattle.steps.specs.Counters.{started};
 ghost use Rattle.machine.specs.State.{buffers_of, state_of};
+ghost use Rattle.passes.specs.Lent.{buffers_in, Kept};
 ghost use Rattle.engine.specs.Begin.{forgotten, forget_at};
 
 use numbers::kind::{DIODE, INDUCTOR};
+use passes::{Buffers, Circuit};
 
 // Makes every buffer what it is before the first pass.
-pub fn begin(
-    sheet: &[u8],
-    nodes: usize,
-    base: &mut [f64],
-    accepted: &mut [f64],
-    system: &mut [f64],
-    vector: &mut [f64],
-    memory: &mut [f64],
-)
-    ensures { state_of started accepted.new (buffers_of base.new system.new vector.new memory.new [])
-        ≡ state_of started (zeros_like accepted.old) (buffers_of (base_of nodes (length vector.old) sheet.now base.old)
-        (zeros_like system.old) (zeros_like vector.old) (forgotten sheet.now memory.old) []) }
+pub fn begin(k: Circuit, accepted: &mut [f64], w: &mut Buffers)
+    ensures all { state_of started accepted.new (buffers_in w.new [])
+        ≡ state_of started (zeros_like accepted.old) (buffers_of (base_of k.entry.job.nodes (length w.old.vector.now) k.entry.sheet.now w.old.base.now)
+        (zeros_like w.old.system.now) (zeros_like w.old.vector.now) (forgotten k.entry.sheet.now w.old.memory.now) []) }
+    ensures kept { Kept w.new w.old }
 {
-    groups::stamp_base(sheet, nodes, vector.len(), base);
-    loops::fill(accepted, 0.0);
-    loops::fill(system, 0.0);
-    loops::fill(vector, 0.0);
-    forget(sheet, memory);
+    let n = w.vector.len();
+    groups::stamp_base(k.sheet, k.job.nodes, n, w.base);
+    accepted.fill(0.0);
+    w.system.fill(0.0);
+    w.vector.fill(0.0);
+    forget(k.sheet, w.memory);
 }
 
 // Puts the memory of every diode and inductor to 0.0; other records' floats stay.

@@ -8,18 +8,19 @@ mod work;
 
 ghost use Rattle.std.specs.Prelude.{◌≡◌, true, false, []};
 ghost use Rattle.machine.specs.State.{buffers_of};
-ghost use Rattle.engine.specs.Engine.{call_of, result_of, run_of, Scratched};
+ghost use Rattle.engine.specs.Engine.{call_in, result_of, run_of, Scratched};
 
 use checks::Sizes;
+use numbers::verdict::Verdict;
 use options::Options;
-use sheet::Checked;
+use passes::Circuit;
 use steps::Job;
 
 // How a run ended: its verdict, the verdict of its DC part, the passes solved, the rows written and the time reached; and whether a diode was then behind.
 #[derive(Clone, Copy)]
 pub struct Ending {
-    pub verdict: u8,
-    pub dc: u8,
+    pub verdict: Verdict,
+    pub dc: Verdict,
     pub passes: u64,
     pub rows: u64,
     pub end: f64,
@@ -34,13 +35,20 @@ pub enum Outcome {
     Ended(Ending),
 }
 
+// What is asked of a sheet: its records with their points, the counts of its nodes and sources, and the options.
+#[derive(Clone, Copy)]
+pub struct Input<'a> {
+    pub sheet: &'a [u8],
+    pub points: &'a [u8],
+    pub nodes: usize,
+    pub sources: usize,
+    pub options: Options,
+}
+
 // The DC operating point of a sheet.
+// kept: here and in the functions above the engine five buffers beside each other, for a struct of them that is handed on does not tell its maker what stands in them afterwards (it was tried).
 pub fn dc_operating_point(
-    sheet: &[u8],
-    points: &[u8],
-    nodes: usize,
-    sources: usize,
-    o: Options,
+    i: Input,
     base: &mut [f64],
     system: &mut [f64],
     elimination: &mut [f64],
@@ -48,22 +56,13 @@ pub fn dc_operating_point(
     memory: &mut [f64],
 ) -> Outcome
     ensures all { result_of result (buffers_of base.new system.new vector.new memory.new [])
-        ≡ run_of (call_of o false nodes sources sheet.now points.now elimination.old
-        (buffers_of base.old system.old vector.old memory.old [])) }
-    ensures scratch { Scratched (call_of o false nodes sources sheet.now points.now elimination.old
-        (buffers_of base.old system.old vector.old memory.old [])) elimination.new }
+        ≡ run_of (call_in i.entry false elimination.old (buffers_of base.old system.old vector.old memory.old [])) }
+    ensures scratch { Scratched (call_in i.entry false elimination.old (buffers_of base.old system.old vector.old memory.old [])) elimination.new }
 {
     let mut none = [0.0];
-    let j = Job {
-        options: o,
-        nodes,
-        transient: false,
-    };
     analysis(
-        j,
-        sources,
-        sheet,
-        points,
+        i,
+        false,
         base,
         system,
         elimination,
@@ -75,11 +74,7 @@ pub fn dc_operating_point(
 
 // The transient analysis of a sheet: DC first, then steps, whose rows go to `rows`.
 pub fn transient_analysis(
-    sheet: &[u8],
-    points: &[u8],
-    nodes: usize,
-    sources: usize,
-    o: Options,
+    i: Input,
     base: &mut [f64],
     system: &mut [f64],
     elimination: &mut [f64],
@@ -88,36 +83,16 @@ pub fn transient_analysis(
     rows: &mut [f64],
 ) -> Outcome
     ensures all { result_of result (buffers_of base.new system.new vector.new memory.new rows.new)
-        ≡ run_of (call_of o true nodes sources sheet.now points.now elimination.old
-        (buffers_of base.old system.old vector.old memory.old rows.old)) }
-    ensures scratch { Scratched (call_of o true nodes sources sheet.now points.now elimination.old
-        (buffers_of base.old system.old vector.old memory.old rows.old)) elimination.new }
+        ≡ run_of (call_in i.entry true elimination.old (buffers_of base.old system.old vector.old memory.old rows.old)) }
+    ensures scratch { Scratched (call_in i.entry true elimination.old (buffers_of base.old system.old vector.old memory.old rows.old)) elimination.new }
 {
-    let j = Job {
-        options: o,
-        nodes,
-        transient: true,
-    };
-    analysis(
-        j,
-        sources,
-        sheet,
-        points,
-        base,
-        system,
-        elimination,
-        vector,
-        memory,
-        rows,
-    )
+    analysis(i, true, base, system, elimination, vector, memory, rows)
 }
 
 // Either analysis: the checks in their order, then the work on parts of the very lengths.
 fn analysis(
-    j: Job,
-    sources: usize,
-    sheet: &[u8],
-    points: &[u8],
+    i: Input,
+    transient: bool,
     base: &mut [f64],
     system: &mut [f64],
     elimination: &mut [f64],
@@ -126,35 +101,40 @@ fn analysis(
     rows: &mut [f64],
 ) -> Outcome
     ensures all { result_of result (buffers_of base.new system.new vector.new memory.new rows.new)
-        ≡ run_of (call_of j.options j.transient j.nodes sources sheet.now points.now elimination.old
-        (buffers_of base.old system.old vector.old memory.old rows.old)) }
-    ensures scratch { Scratched (call_of j.options j.transient j.nodes sources sheet.now points.now elimination.old
-        (buffers_of base.old system.old vector.old memory.old rows.old)) elimination.new }
+        ≡ run_of (call_in i.entry transient elimination.old (buffers_of base.old system.old vector.old memory.old rows.old)) }
+    ensures scratch { Scratched (call_in i.entry transient elimination.old (buffers_of base.old system.old vector.old memory.old rows.old)) elimination.new }
 {
     let z = Sizes {
-        nodes: j.nodes,
-        sources,
-        sheet: sheet.len(),
-        points: points.len(),
+        nodes: i.nodes,
+        sources: i.sources,
+        sheet: i.sheet.len(),
+        points: i.points.len(),
         base: base.len(),
         system: system.len(),
         elimination: elimination.len(),
         vector: vector.len(),
         memory: memory.len(),
         rows: rows.len(),
-        transient: j.transient,
+        transient,
     };
-    let f = checks::check(j.options, z, sheet);
-    let Checked::Clean = f else {
+    if let Err(f) = checks::check(i.options, z, i.sheet) {
         return told::refused(f);
-    };
-    let n = j.nodes + sources;
+    }
+    let n = i.nodes + i.sources;
     let cells = n * (n + 1);
-    let records = sheet.len() / sheet::RECORD;
+    let records = i.sheet.len() / sheet::RECORD;
+    let job = Job {
+        options: i.options,
+        nodes: i.nodes,
+        transient,
+    };
+    let k = Circuit {
+        job,
+        sheet: i.sheet,
+        points: i.points,
+    };
     let r = work::run_in(
-        j,
-        sheet,
-        points,
+        k,
         &mut base[..cells],
         &mut elimination[..cells],
         &mut system[..cells],

@@ -1,10 +1,10 @@
 // What a run answers: a refusal with its place, or how its counters read when no more passes are given.
-ghost use Rattle.std.specs.Prelude.{◌≡◌};
+ghost use Rattle.std.specs.Prelude.{◌≡◌, Err};
 ghost use Rattle.engine.specs.Engine.{ending_of, refused_of};
 
 use super::work::Handed;
 use super::{Ending, Outcome};
-use sheet::Checked;
+use sheet::Fault;
 
 // The answer of a run that ended, or whose budget did.
 pub fn ended(h: Handed) -> Outcome
@@ -12,8 +12,8 @@ pub fn ended(h: Handed) -> Outcome
 {
     let c = h.counters;
     Outcome::Ended(Ending {
-        verdict: steps::verdict_of(c),
-        dc: steps::dc_verdict_of(c),
+        verdict: c.verdict(),
+        dc: c.dc_verdict(),
         passes: c.passes,
         rows: c.rows,
         end: c.time,
@@ -22,8 +22,8 @@ pub fn ended(h: Handed) -> Outcome
 }
 
 // The answer of a refused call.
-pub fn refused(f: Checked) -> Outcome
-    ensures { result ≡ refused_of f }
+pub fn refused(f: Fault) -> Outcome
+    ensures { result ≡ refused_of (Err f) }
 {
-    Outcome::Refused(sheet::number(f), sheet::place(f))
+    Outcome::Refused(f.refusal.number(), f.place)
 }

@@ -97,8 +97,8 @@ fn as_stored(r: Outcome, transient: bool) -> Numbers {
         Outcome::Ended(e) => Numbers {
             refusal: 0,
             place: 0,
-            verdict: e.verdict as u64,
-            dc: if transient { e.dc as u64 } else { 0 },
+            verdict: e.verdict.number() as u64,
+            dc: if transient { e.dc.number() as u64 } else { 0 },
             passes: e.passes,
             rows: e.rows,
             end: e.end,

@@ -1,5 +1,6 @@
 -- Which of two lists of limbs stands for more: the topmost limb that differs decides. Assumes nothing.
-use Rattle.std.proofs.Common.{◌≡◌, ℕ, zero, suc, ◌+◌, ◌-◌, ◌*◌, ◌^◌, ◌<◌, ◌≤◌, List, [], ◌∷◌, length, get_or, take, drop, sym, refl, ap, ◌∙◌, subst, mul-le-mul_left, arith, lit<, drop_of_length-le, pow_pos}
+use Rattle.std.proofs.Common.{◌≡◌, Bool, true, false, ltb, leb, ltb-true, ltb-false, le-leb, le_of_lt, ℕ, zero, suc, ◌+◌, ◌-◌, ◌*◌, ◌^◌, ◌<◌, ◌≤◌, List, [], ◌∷◌, length, get_or, take, drop, sym, refl, ap, ◌∙◌, subst, mul-le-mul_left, arith, lit<, drop_of_length-le, pow_pos}
+use borrow.Author.Tests.{lt-leb}
 use Rattle.exact.specs.Limbs.{value}
 use Rattle.exact.specs.Laws.Limbs.{above}
 
@@ -58,11 +59,16 @@ module _ (a b : List ℕ) (i : ℕ) (p : 0 < i) (e : value (drop i a) ≡ value 
   above_same : value (drop (suc (i - 1)) a) ≡ value (drop (suc (i - 1)) b)
   above_same = let step : suc (i - 1) ≡ i = omega arith in rw step e
 
-  pub first_less : ((j : ℕ) → get_or a j 0 < 2 ^ 64) → get_or a (i - 1) 0 < get_or b (i - 1) 0 → value a < value b
-  first_less g l = smaller a b (i - 1) g above_same l
+  -- limbs at i - 1 that differ decide
+  pub decided : ((j : ℕ) → get_or a j 0 < 2 ^ 64) → ((j : ℕ) → get_or b j 0 < 2 ^ 64) → (get_or a (i - 1) 0 ≡ get_or b (i - 1) 0 → ⊥) → ltb (get_or a (i - 1) 0) (get_or b (i - 1) 0) ≡ leb (value a) (value b)
+  decided g h d = go (ltb (get_or a (i - 1) 0) (get_or b (i - 1) 0)) refl
+    where
+      less : (p q : ℕ) → q ≤ p → (p ≡ q → ⊥) → q < p
+      less p q k n = omega arith
 
-  pub second_less : ((j : ℕ) → get_or b j 0 < 2 ^ 64) → get_or b (i - 1) 0 < get_or a (i - 1) 0 → value b < value a
-  second_less g l = smaller b a (i - 1) g (sym above_same) l
+      go : (t : Bool) → ltb (get_or a (i - 1) 0) (get_or b (i - 1) 0) ≡ t → t ≡ leb (value a) (value b)
+      go true f = sym (le-leb (value a) (value b) (le_of_lt (smaller a b (i - 1) g above_same (ltb-true _ _ f))))
+      go false f = sym (lt-leb (value a) (value b) (smaller b a (i - 1) h (sym above_same) (less _ _ (ltb-false _ _ f) d)))
 
   pub same : get_or a (i - 1) 0 ≡ get_or b (i - 1) 0 → value (drop (i - 1) a) ≡ value (drop (i - 1) b)
   same q = next a (i - 1) ∙ (λ j. q j + 2 ^ 64 * above_same j) ∙ sym (next b (i - 1))

@@ -1,5 +1,6 @@
 -- A product goes to the side of its sign, and the other side stays; what the check found, and the rows that are left. Assumes nothing.
-use Rattle.std.proofs.Common.{◌≡◌, ℕ, ◌+◌, ◌*◌, ◌^◌, ◌<◌, Bool, true, false, cond, not, ◌&&◌, T, List, length, get_or, refl, ap, ◌∙◌, arith, ltb-true, eqb-true}
+use Rattle.std.proofs.Common.{◌≡◌, ℕ, ◌+◌, ◌*◌, ◌^◌, ◌<◌, Bool, true, false, cond, not, ◌&&◌, T, List, length, get_or, Ok, Err, refl, ap, ◌∙◌, arith, ltb-true, eqb-true}
+use Rattle.std.specs.Bool.{⊤}
 use mathlib.Core.Bool.{beq, and-eq-true_iff as both}
 use denote.Floats.{passes}
 use lib.Ieee.{Float, unlike}
@@ -10,7 +11,7 @@ use Rattle.num.specs.Floats.{sign}
 use Rattle.exact.specs.Exact.{units, times}
 use Rattle.exact.specs.Rows.{Room, Sum, Adds}
 use Rattle.exact.specs.Kept.{is_row, has_room, rows_of, check_of, kept_of}
-use Rattle.exact.specs.declared.Kept.TheVariants.{Added, NotFinite, NoRoom, WrongLength}
+use Rattle.exact.specs.declared.Unkept.TheVariants.{NotFinite, NoRoom, WrongLength}
 
 unchanged : (l : List ℕ) → Sum l 0 l
 unchanged l = record { limbs = refl; sum = omega arith }
@@ -38,16 +39,16 @@ pub record MayAdd (p m : List ℕ) (x y : Float) : Type 0 where
   pub first : T (finite x)
   pub second : T (finite y)
 
-only_added : (a b c : Bool) → cond a (cond b (cond c Added NoRoom) NotFinite) WrongLength ≡ Added → (a ≡ true) × (b ≡ true) × (c ≡ true)
-only_added true true true e = (refl, refl, refl)
-only_added true true false e = absurd (let z : ◌≡◌ {A = ℕ} 0 1 = cc in omega arith)
-only_added true false c e = absurd (let z : ◌≡◌ {A = ℕ} 0 1 = cc in omega arith)
-only_added false b c e = absurd (let z : ◌≡◌ {A = ℕ} 0 1 = cc in omega arith)
+only_added : (a b c : Bool) (t : ⊤) → cond a (cond b (cond c (Ok tt) (Err NoRoom)) (Err NotFinite)) (Err WrongLength) ≡ Ok t → (a ≡ true) × (b ≡ true) × (c ≡ true)
+only_added true true true t e = (refl, refl, refl)
+only_added true true false t e = absurd (cc)
+only_added true false c t e = absurd (cc)
+only_added false b c t e = absurd (cc)
 
-pub may_add : (p m : List ℕ) (x y : Float) → check_of p m x y ≡ Added → MayAdd p m x y
+pub may_add : (p m : List ℕ) (x y : Float) → check_of p m x y ≡ Ok tt → MayAdd p m x y
 unfolding check_of
 may_add p m x y e =
-    let a = only_added (is_row p && is_row m) (finite x && finite y) (has_room p && has_room m) e in
+    let a = only_added (is_row p && is_row m) (finite x && finite y) (has_room p && has_room m) tt e in
     let r = (both (is_row p) (is_row m)).0 a.0 in
     let f = (both (finite x) (finite y)).0 a.1 in
     let h = (both (has_room p) (has_room m)).0 a.2 in
@@ -62,9 +63,9 @@ may_add p m x y e =
 limbs_of_lem : (l l' : List ℕ) (n : ℕ) → length l ≡ 66 → Sum l n l' → ((j : ℕ) → get_or l' j 0 < 2 ^ 64) → l' ≡ limbs_of 66 (value l + n)
 limbs_of_lem l l' n e s w = limbs_are l' w ∙ (λ i. limbs_of ((s.limbs ∙ e) i) (s.sum i))
 
-pub added_rows : (p m p' m' : List ℕ) (x y : Float) → check_of p m x y ≡ Added → Adds p m (times x y) p' m' → ((j : ℕ) → get_or p' j 0 < 2 ^ 64) → ((j : ℕ) → get_or m' j 0 < 2 ^ 64)
-    → rows_of Added p' m' ≡ kept_of p m x y
+pub added_rows : (p m p' m' : List ℕ) (x y : Float) → check_of p m x y ≡ Ok tt → Adds p m (times x y) p' m' → ((j : ℕ) → get_or p' j 0 < 2 ^ 64) → ((j : ℕ) → get_or m' j 0 < 2 ^ 64)
+    → rows_of (Ok tt) p' m' ≡ kept_of p m x y
 unfolding kept_of
 added_rows p m p' m' x y e a v w =
     let h = may_add p m x y e in
-    rw e (λ i. rows_of Added (limbs_of_lem p p' _ h.plus.limbs a.plus v i) (limbs_of_lem m m' _ h.minus.limbs a.minus w i))
+    rw e (λ i. rows_of (Ok tt) (limbs_of_lem p p' _ h.plus.limbs a.plus v i) (limbs_of_lem m m' _ h.minus.limbs a.minus w i))

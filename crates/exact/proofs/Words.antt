@@ -1,58 +1,10 @@
 -- A product of two floats' digits as two words, and a shifted pair of words as three. Assumes nothing.
-use Rattle.std.proofs.Common.{◌≡◌, ℕ, ◌+◌, ◌-◌, ◌*◌, ◌/◌, ◌%◌, ◌^◌, ◌<◌, ◌≤◌, List, sym, ap, ◌∙◌, add-zero, mul-le-mul_right, mod-lt, div-lt_iff_lt-mul, mul-le-mul, div-add-mod', arith, lit<, pow_pos, pow-add}
+use Rattle.std.proofs.Common.{◌≡◌, ℕ, ◌+◌, ◌-◌, ◌*◌, ◌/◌, ◌%◌, ◌^◌, ◌<◌, List, sym, ap, ◌∙◌, add-zero, mul-le-mul_right, mod-lt, div-lt_iff_lt-mul, arith, lit<, pow_pos, pow-add}
 use native.Mathlib.Nat.{div-div-eq-div-mul, mul-div-mul_right, mod-add-div, mul-mod_left}
 use Rattle.exact.specs.Limbs.{value}
 use Rattle.exact.specs.Rows.{Carried}
 use Rattle.exact.proofs.Carry.{next_weight}
 use lib.Pow.{mod-pow-add, shl-shr}
-
--- ---- halves of 27 bits
-abbrev pub low27 : ℕ → ℕ
-low27 a = a % 134217728
-
-abbrev pub high27 : ℕ → ℕ
-high27 a = a / 134217728
-
-pub low_low : (a b : ℕ) → low27 a * low27 b ≤ 2 ^ 54
-low_low a b = mul-le-mul {n₂ = 2 ^ 27} {m₂ = 2 ^ 27} (go a) (go b)
-  where
-    go : (n : ℕ) → n % 134217728 ≤ 2 ^ 27
-    go n = omega arith
-
-pub high_low : (a b : ℕ) → a < 2 ^ 53 → high27 a * low27 b ≤ 2 ^ 53
-high_low a b h = mul-le-mul {n₂ = 2 ^ 26} {m₂ = 2 ^ 27} (up a h) (go b)
-  where
-    up : (n : ℕ) → n < 2 ^ 53 → n / 134217728 ≤ 2 ^ 26
-    up n p = omega arith
-
-    go : (n : ℕ) → n % 134217728 ≤ 2 ^ 27
-    go n = omega arith
-
-pub high_high : (a b : ℕ) → a < 2 ^ 53 → b < 2 ^ 53 → high27 a * high27 b ≤ 2 ^ 52
-high_high a b h g = mul-le-mul {n₂ = 2 ^ 26} {m₂ = 2 ^ 26} (up a h) (up b g)
-  where
-    up : (n : ℕ) → n < 2 ^ 53 → n / 134217728 ≤ 2 ^ 26
-    up n p = omega arith
-
--- the two words of a product, by its halves: near and far are its digits in base 2 ^ 54
-pub joined : (a b near far : ℕ) → near ≡ low27 a * low27 b + (high27 a * low27 b + low27 a * high27 b) % 134217728 * 134217728
-    → far ≡ high27 a * high27 b + (high27 a * low27 b + low27 a * high27 b) / 134217728 + near / 18014398509481984
-    → near % 18014398509481984 + far % 1024 * 18014398509481984 + 2 ^ 64 * (far / 1024) ≡ a * b
-joined a b near far n f =
-    words near (high27 a * high27 b + (high27 a * low27 b + low27 a * high27 b) / 134217728) far f
-    ∙ ap (λ (k : ℕ). k + 18014398509481984 * (high27 a * high27 b + (high27 a * low27 b + low27 a * high27 b) / 134217728)) n
-    ∙ halves (low27 a * low27 b) (high27 a * low27 b + low27 a * high27 b) (high27 a * high27 b)
-    ∙ go (low27 a) (high27 a) (low27 b) (high27 b)
-    ∙ (λ i. div-add-mod' a 134217728 i * div-add-mod' b 134217728 i)
-  where
-    words : (u v w : ℕ) → w ≡ v + u / 18014398509481984 → u % 18014398509481984 + w % 1024 * 18014398509481984 + 2 ^ 64 * (w / 1024) ≡ u + 18014398509481984 * v
-    words u v w e = omega arith
-
-    halves : (u v w : ℕ) → u + v % 134217728 * 134217728 + 18014398509481984 * (w + v / 134217728) ≡ u + v * 134217728 + w * 18014398509481984
-    halves u v w = omega arith
-
-    go : (x y z w : ℕ) → x * z + (y * z + x * w) * 134217728 + y * w * 18014398509481984 ≡ (y * 134217728 + x) * (w * 134217728 + z)
-    go x y z w = omega arith
 
 -- ---- a word at a bit's place
 pub high_word : (p s : ℕ) → s < 64 → p / 2 ^ (63 - s) / 2 ≡ p * 2 ^ s / 2 ^ 64

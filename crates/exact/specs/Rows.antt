@@ -32,7 +32,6 @@ pub record Sum (l : List ℕ) (n : ℕ) (l' : List ℕ) : Type 0 where
 pub record Carried (l : List ℕ) (i n carry : ℕ) (l' : List ℕ) : Type 0 where
   pub limbs : length l' ≡ length l
   pub sum : value l' + carry * 2 ^ (64 * (i + 1)) ≡ value l + n * 2 ^ (64 * i)
-  pub small : carry ≤ 2
 
 -- w is a row of one limb more that stands for the same
 pub record Wide (l w : List ℕ) : Type 0 where

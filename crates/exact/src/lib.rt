@@ -5,7 +5,7 @@
 mod limbs; // limbs.rt: a number added to a row of limbs, the carry passed on
 mod parts; // parts.rt: a finite float as digits at a place
 
-ghost use Rattle.std.specs.Prelude.{◌≡◌, ◌+◌, ◌*◌, ◌^◌, ◌<◌, ◌≤◌, T, length, nat_le, slice_index};
+ghost use Rattle.std.specs.Prelude.{◌≡◌, ◌+◌, ◌*◌, ◌^◌, ◌<◌, T, length, nat_le, slice_index};
 ghost use Rattle.std.specs.Float.Ieee.Scale.{finite};
 ghost use Rattle.numbers.specs.Limits.{sum_limbs};
 ghost use Rattle.exact.specs.Limbs.{value, limbs_of};
@@ -22,12 +22,11 @@ pub use parts::Parts;
 const TOP: usize = SUM_LIMBS - 1;
 
 // 2^63: a row whose topmost limb is below it is below 2^4223 units.
-const ROOM: u64 = 9223372036854775808;
+const ROOM: u64 = 1 << 63;
 
-// What became of a number that was to be added. All but Added leave the rows as they were.
-#[derive(Drop)]
-pub enum Kept {
-    Added,
+// Why a number is not added. The rows stay as they were.
+#[derive(Clone, Copy, Debug, PartialEq, Eq, Hash)]
+pub enum Unkept {
     // a factor is an infinity or a NaN
     NotFinite,
     // a row stands at 2^4223 units or above
@@ -61,48 +60,34 @@ pub fn empty() -> [u64; SUM_LIMBS]
 pub fn clear(row: &mut [u64])
     ensures { row.new ≡ limbs_of (length row.old) 0 }
 {
-    for i in 0..row.len() {
-        row[i] = 0;
-    }
+    row.fill(0);
 }
 
 // Adds x to plus less minus. With the two rows exchanged x is taken off.
-pub fn keep(plus: &mut [u64], minus: &mut [u64], x: f64) -> Kept
+pub fn keep(plus: &mut [u64], minus: &mut [u64], x: f64) -> Result<(), Unkept>
     ensures { rows_of result plus.new minus.new ≡ kept_of plus.old minus.old x one }
 {
     keep_product(plus, minus, x, 1.0)
 }
 
 // Adds x times y to plus less minus. With the two rows exchanged it is taken off.
-pub fn keep_product(plus: &mut [u64], minus: &mut [u64], x: f64, y: f64) -> Kept
+pub fn keep_product(plus: &mut [u64], minus: &mut [u64], x: f64, y: f64) -> Result<(), Unkept>
     ensures { rows_of result plus.new minus.new ≡ kept_of plus.old minus.old x y }
 {
-    let k = check(plus, minus, x, y);
-    match k {
-        Kept::Added => {
-            add_term(plus, minus, x, y);
-            Kept::Added
-        }
-        Kept::NotFinite => Kept::NotFinite,
-        Kept::NoRoom => Kept::NoRoom,
-        Kept::WrongLength => Kept::WrongLength,
-    }
+    check(plus, minus, x, y)?;
+    add_term(plus, minus, x, y);
+    Ok(())
 }
 
 // Whether the row a stands for at most what b stands for, whatever their lengths.
 pub fn at_most(a: &[u64], b: &[u64]) -> bool
     ensures { result ≡ nat_le (value a.now) (value b.now) }
 {
-    let mut i = longer(a.len(), b.len());
-    while 0 < i {
-        i -= 1;
+    for i in (0..a.len().max(b.len())).rev() {
         let p = limb(a, i);
         let q = limb(b, i);
-        if p < q {
-            return true;
-        }
-        if q < p {
-            return false;
+        if p != q {
+            return p < q;
         }
     }
     true
@@ -112,44 +97,27 @@ pub fn at_most(a: &[u64], b: &[u64]) -> bool
 pub fn within(plus: &[u64], minus: &[u64], t: f64) -> bool
     ensures { result ≡ within_of plus.now minus.now t }
 {
-    if plus.len() != SUM_LIMBS {
-        return false;
-    }
-    if minus.len() != SUM_LIMBS {
-        return false;
-    }
-    if !num::finite(t) {
-        return false;
-    }
-    if !reaches(minus, t, plus) {
-        return false;
-    }
-    reaches(plus, t, minus)
+    plus.len() == SUM_LIMBS
+        && minus.len() == SUM_LIMBS
+        && num::finite(t)
+        && reaches(minus, t, plus)
+        && reaches(plus, t, minus)
 }
 
 // What stands against adding x times y.
-fn check(plus: &[u64], minus: &[u64], x: f64, y: f64) -> Kept
+fn check(plus: &[u64], minus: &[u64], x: f64, y: f64) -> Result<(), Unkept>
     ensures { result ≡ check_of plus.now minus.now x y }
 {
-    if plus.len() != SUM_LIMBS {
-        return Kept::WrongLength;
+    if plus.len() != SUM_LIMBS || minus.len() != SUM_LIMBS {
+        return Err(Unkept::WrongLength);
     }
-    if minus.len() != SUM_LIMBS {
-        return Kept::WrongLength;
+    if !num::finite(x) || !num::finite(y) {
+        return Err(Unkept::NotFinite);
     }
-    if !num::finite(x) {
-        return Kept::NotFinite;
+    if !has_room(plus) || !has_room(minus) {
+        return Err(Unkept::NoRoom);
     }
-    if !num::finite(y) {
-        return Kept::NotFinite;
-    }
-    if !has_room(plus) {
-        return Kept::NoRoom;
-    }
-    if !has_room(minus) {
-        return Kept::NoRoom;
-    }
-    Kept::Added
+    Ok(())
 }
 
 // Whether a row is below 2^4223 units: its topmost limb says it.
@@ -179,23 +147,14 @@ fn reaches(a: &[u64], t: f64, b: &[u64]) -> bool
     requires { (length a.now ≡ sum_limbs) × T (finite t) }
     ensures { result ≡ nat_le (value b.now) (value a.now + size t) }
 {
-    let mut sum = limbs::copied(a);
+    let mut sum = limbs::widened(a);
     parts::add_size(&mut sum, parts::parts_of(t), parts::parts_of(1.0));
     at_most(b, &sum)
 }
 
 // The limb at i; past the end there is 0.
-fn limb(l: &[u64], i: usize) -> u64
+pub fn limb(l: &[u64], i: usize) -> u64
     ensures { result ≡ slice_index l.now i }
 {
-    if l.len() <= i {
-        return 0;
-    }
-    l[i]
-}
-
-fn longer(a: usize, b: usize) -> usize
-    ensures { (a ≤ result) × (b ≤ result) }
-{
-    if a < b { b } else { a }
+    l.get(i).copied().unwrap_or(0)
 }

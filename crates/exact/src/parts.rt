@@ -6,13 +6,13 @@ ghost use Rattle.exact.specs.Exact.{units};
 ghost use Rattle.exact.specs.Rows.{Spacious, Sum, Small};
 
 // 2^63, the sign's bit.
-const SIGN: u64 = 9223372036854775808;
+const SIGN: u64 = 1 << 63;
 
 // 2^52, the digit that leads every float but the subnormal.
-const LEADING: u64 = 4503599627370496;
+const LEADING: u64 = 1 << 52;
 
 // A finite float's digits, the place of the lowest in units of 2^-1074, and whether it stands with a minus.
-#[derive(Drop)]
+#[derive(Clone, Copy, Debug, PartialEq, Eq)]
 pub struct Parts {
     pub digits: u64,
     pub place: usize,
@@ -31,13 +31,13 @@ pub fn parts_of(x: f64) -> Parts
         return Parts {
             digits: low,
             place: 0,
-            minus: minus,
+            minus,
         };
     }
     Parts {
         digits: LEADING + low,
         place: (field - 1) as usize,
-        minus: minus,
+        minus,
     }
 }
 

@@ -5,7 +5,7 @@ use Rattle.numbers.specs.Kinds.{diode}
 use Rattle.sheet.specs.declared.Element.{Element}
 use Rattle.sheet.specs.declared.Element.TheVariants.{R, I, «V», D, Isin, Vsin, Vpwl, C, Vcvs, Vccs, L}
 use Rattle.groups.specs.Records.{record_in, on_record, across}
-use Rattle.files.specs.declared.volts.Volts.{Volts}
+use Rattle.say.specs.declared.job.Volts.{Volts}
 
 -- the voltage across a diode in the vector x, and 0 for every other element
 abbrev pub across_in : List Float → Element → Float

@@ -7,6 +7,6 @@ mod job; // job.rt: a file of jobs
 mod spread; // spread.rt: a file of spreads
 mod volts; // volts.rt: the two voltages of a diode that is behind
 
-pub use going::{Going, at_fault, at_file, begun};
+pub use going::Going;
 pub use job::run_file as run_jobs;
 pub use spread::run_file as run_spreads;

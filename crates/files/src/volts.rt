@@ -3,14 +3,9 @@ ghost use Rattle.std.specs.Prelude.{◌≡◌};
 ghost use Rattle.files.specs.Volts.{across_in, across_at, volts_of};
 
 use groups::records::{across, number_at, record_of};
-use numbers::kind::DIODE;
-use sheet::{Decoded, Element};
-
-#[derive(Drop)]
-pub struct Volts {
-    pub across: f64,
-    pub limited: f64,
-}
+use numbers::kind::Kind;
+use say::Volts;
+use sheet::Element;
 
 // Those of the diode in record i.
 pub fn volts_of(sheet: &[u8], i: usize, vector: &[f64], memory: &[f64]) -> Volts
@@ -26,8 +21,7 @@ pub fn volts_of(sheet: &[u8], i: usize, vector: &[f64], memory: &[f64]) -> Volts
 fn across_at(sheet: &[u8], i: usize, vector: &[f64]) -> f64
     ensures { result ≡ across_at sheet.now i vector.now }
 {
-    let d = record_of(sheet, i, DIODE);
-    let Decoded::Good(e) = d else {
+    let Ok(e) = record_of(sheet, i, Kind::Diode) else {
         return 0.0;
     };
     across_in(e, vector)

@@ -1,30 +1,11 @@
 -- The division of start * N by m: the quotient of the leading digits, S N / D with S = start / 2 ^ 21 and D = m / 2 ^ 21 + 1, is right or one too small,
 -- and what is left comes out of wrapped arithmetic. Assumes nothing.
-use Rattle.std.proofs.Common.{◌≡◌, ℕ, suc, ◌+◌, ◌-◌, ◌*◌, ◌/◌, ◌%◌, ◌^◌, ◌<◌, ◌≤◌, sym, ap, ◌∙◌, subst, lt_of_le_of_lt, mul-le-mul_right, mul_comm, mul-le-mul, lt_of_mul-lt-mul_right, mul-le-mul_left, mul-lt-mul_of_pos_right, div-mul-le_self, arith, lit<, w64, Fits}
+use Rattle.std.proofs.Common.{◌≡◌, ℕ, suc, ◌+◌, ◌-◌, ◌*◌, ◌/◌, ◌%◌, ◌^◌, ◌<◌, ◌≤◌, sym, ap, ◌∙◌, subst, lt_of_le_of_lt, mul-le-mul_right, mul_comm, mul-le-mul, lt_of_mul-lt-mul_right, mul-le-mul_left, mul-lt-mul_of_pos_right, div-mul-le_self, arith, lit<}
 use native.Mathlib.Nat.{lt-div-mul-add}
 
 -- a difference that is a word, from what it wraps to
 pub unwrapped : (A K r : ℕ) → K ≤ A → A < K + 2 ^ 64 → r < 2 ^ 64 → (r + K) % 2 ^ 64 ≡ A % 2 ^ 64 → A ≡ K + r
 unwrapped A K r l h w e = omega arith
-
--- the product by m's halves
-halves : (l h M : ℕ) → (l + h * 2 ^ 32 % 2 ^ 64) % 2 ^ 64 ≡ (l + h * 2 ^ 32) % 2 ^ 64
-halves l h M = omega arith
-
-pub wraps_back : (r k m a s : ℕ) → s ≡ (k * (m % 2 ^ 32) + k * (m / 2 ^ 32) * 2 ^ 32 % 2 ^ 64) % 2 ^ 64 → (r + s) % 2 ^ 64 ≡ a → (r + k * m) % 2 ^ 64 ≡ a
-wraps_back r k m a s e f = ap (λ (n : ℕ). (r + n) % 2 ^ 64) (ap (λ (n : ℕ). k * n) (parts m)) ∙ go r (k * (m % 2 ^ 32)) (k * (m / 2 ^ 32)) s (k * (m % 2 ^ 32 + m / 2 ^ 32 * 2 ^ 32)) (spread k (m % 2 ^ 32) (m / 2 ^ 32)) e ∙ f
-  where
-    parts : (x : ℕ) → x ≡ x % 2 ^ 32 + x / 2 ^ 32 * 2 ^ 32
-    parts x = omega arith
-
-    spread : (x y z : ℕ) → x * (y + z * 2 ^ 32) ≡ x * y + x * z * 2 ^ 32
-    spread x y z = omega arith
-
-    go : (r l h s p : ℕ) → p ≡ l + h * 2 ^ 32 → s ≡ (l + h * 2 ^ 32 % 2 ^ 64) % 2 ^ 64 → (r + p) % 2 ^ 64 ≡ (r + s) % 2 ^ 64
-    go r l h s p u v = omega arith
-
-pub low_fits : (k x : ℕ) → k ≤ 2 ^ 22 → x ≤ 2 ^ 32 → Fits w64 (k * x)
-low_fits k x p q = record { fits = lt_of_le_of_lt (mul-le-mul p q) (lit< tt) }
 
 module _ (start m N : ℕ) (lo : 2 ^ 61 ≤ m) (hi : m < 2 ^ 63) (sm : start < m) (np : 0 < N) (nb : N ≤ 2 ^ 22) where
   abbrev S : ℕ

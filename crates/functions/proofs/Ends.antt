@@ -1,12 +1,11 @@
 -- The tests by which ln and sin tell the inputs at which they take no sum: zeros, negatives, infinities, NaN, and for sin what lies beyond 2 ^ 20. Assumes nothing.
-use Rattle.std.proofs.Common.{◌≡◌, ℕ, zero, suc, ◌*◌, ◌^◌, ◌<◌, ◌≤◌, Bool, true, false, cond, ◌||◌, T, eqb, pos, sym, refl, ap, ◌∙◌, subst, true≢false, arith, lt→ltb, ltb-false, ltb-true, eq-eqb, eqb-true}
+use Rattle.std.proofs.Common.{◌≡◌, ℕ, zero, suc, ◌*◌, ◌^◌, ◌<◌, ◌≤◌, Bool, true, false, cond, ◌||◌, T, eqb, pos, sym, refl, ap, ◌∙◌, subst, true≢false, arith, lt→ltb, ltb-false, ltb-true, eq-eqb, eqb-true, Some}
 use mathlib.Core.Bool.{beq, and-eq-true_iff as both}
 use lib.Dec.{eqb-suc-zero}
 use lib.Ieee.{Float, nan, inf, fin, lt, eq, ne, up, down, level}
 use lib.Ieee.Fits.{up_pos}
 use lib.Ieee.Compare.{nan_differs, differs_from_itself}
 use lib.Ieee.Positive.{positive}
-use Rattle.functions.specs.declared.Sine.TheVariants.{Value}
 use Rattle.functions.specs.Ln.{ln_positive, ln_of}
 use Rattle.functions.specs.Sin.{sin_far, sin_of, SinRange}
 use Rattle.functions.specs.Laws.Values as values
@@ -99,8 +98,8 @@ sin_below (inf s) h = sym (values.sin_infinity s)
 sin_below (fin false m e) h = absurd (true≢false (sym h))
 sin_below (fin true m e) h = sym (values.sin_refused (fin true m e) tt (more (m * up e) (down e) (ltb-true (2 ^ 20 * down e) (m * up e * 1) h)))
 
-pub sin_nan : (x : Float) → ne x x ≡ true → Value x ≡ sin_of x
-sin_nan x h = subst (λ (y : Float). Value y ≡ sin_of y) (sym (differs_from_itself x (subst T (sym h) tt))) (sym values.sin_nan)
+pub sin_nan : (x : Float) → ne x x ≡ true → Some x ≡ sin_of x
+sin_nan x h = subst (λ (y : Float). Some y ≡ sin_of y) (sym (differs_from_itself x (subst T (sym h) tt))) (sym values.sin_nan)
 
 pub sin_in_range : (x : Float) → ne x x ≡ false → lt (fin false 1 (pos 20)) x ≡ false → lt x (fin true 1 (pos 20)) ≡ false → SinRange x
 unfolding lt

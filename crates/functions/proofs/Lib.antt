@@ -4,5 +4,6 @@ pub mod Divide
 pub mod Quotients
 pub mod Bits
 pub mod Ends
+pub mod Back
 pub mod Thrice
 pub mod Laws

@@ -1,12 +1,10 @@
 -- sin: what it answers, and the sums that the answer is held against. Clients cite sin_of, Numbers and numbers_of, laws sine_refusal and number_of. Definitions only.
-use Rattle.std.specs.Prelude.{ℕ, zero, suc, ◌-◌, ◌*◌, ◌/◌, ◌%◌, ◌^◌, ◌≤◌, Bool, true, false, cond, T, List, [], ◌∷◌, ◌==◌, from_bits, nat_le, nat_lt, Float}
+use Rattle.std.specs.Prelude.{ℕ, zero, suc, ◌-◌, ◌*◌, ◌/◌, ◌%◌, ◌^◌, ◌≤◌, Bool, true, false, cond, T, List, [], ◌∷◌, Option, Some, None, ◌==◌, from_bits, nat_le, nat_lt, Float}
 use Rattle.std.specs.Float.{nan, inf, fin, binary64}
 use Rattle.std.specs.Float.Ieee.{unlike, neg, size}
 use Rattle.std.specs.Float.Ieee.Scale.{finite}
 use Rattle.std.specs.Float.Ieee.Positive.{num, den}
 use Rattle.numbers.specs.Refusals.{by_argument}
-use Rattle.functions.specs.declared.Sine.{Sine}
-use Rattle.functions.specs.declared.Sine.TheVariants.{Value, Refused}
 use Rattle.num.specs.Floats.{nought, sign}
 use Rattle.functions.specs.Fraction.{Fraction, alternating, negated}
 use Rattle.functions.specs.Reduction.{nearest_of, left_of, below_of, k_of}
@@ -61,34 +59,30 @@ sin_large x =
 unfoldable pub sin_near : Float → Float
 sin_near x = cond (nat_lt (4 * num x) (den x)) (sin_small x) (sin_large x)
 
-abbrev pub pick : Bool → Sine → Sine → Sine
-pick true a b = a
-pick false a b = b
-
--- beyond 2 ^ 20 in size: refused where x is finite, and NaN of an infinity
-unfoldable pub sin_far : Float → Sine
-sin_far x = pick (finite x) Refused (Value nan)
+-- beyond 2 ^ 20 in size: none where x is finite, which is the refusal, and NaN of an infinity
+unfoldable pub sin_far : Float → Option Float
+sin_far x = cond (finite x) None (Some nan)
 
 -- the answer
-unfoldable pub sin_of : Float → Sine
-sin_of nan = Value nan
-sin_of (inf s) = Value nan
-sin_of (fin s m e) = pick (nat_le (num (fin s m e)) (2 ^ 20 * den (fin s m e))) (Value (sin_near (fin s m e))) Refused
+unfoldable pub sin_of : Float → Option Float
+sin_of nan = Some nan
+sin_of (inf s) = Some nan
+sin_of (fin s m e) = cond (nat_le (num (fin s m e)) (2 ^ 20 * den (fin s m e))) (Some (sin_near (fin s m e))) None
 
 -- the numbers of an answer: the refusal, 0 if none, and the value, 0.0 if refused
 pub record Numbers : Type 0 where
   pub refusal : ℕ
   pub value : Float
 
-abbrev pub numbers_of : Sine → Numbers
-numbers_of (Value r) = record { refusal = 0; value = r }
-numbers_of Refused = record { refusal = by_argument; value = nought }
+abbrev pub numbers_of : Option Float → Numbers
+numbers_of (Some r) = record { refusal = 0; value = r }
+numbers_of None = record { refusal = by_argument; value = nought }
 
 -- each by itself, as the laws say it
-abbrev pub sine_refusal : Sine → ℕ
+abbrev pub sine_refusal : Option Float → ℕ
 sine_refusal s = (numbers_of s).refusal
 
-abbrev pub number_of : Sine → Float
+abbrev pub number_of : Option Float → Float
 number_of s = (numbers_of s).value
 
 -- ---- what the bound speaks of

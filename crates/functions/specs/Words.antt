@@ -1,5 +1,5 @@
 -- Fixed-point arithmetic in words of 64 bits: what the functions compute with. Definitions only.
-use Rattle.std.specs.Prelude.{ℕ, ◌+◌, ◌-◌, ◌*◌, ◌/◌, ◌^◌, ◌≤◌, cond, List, [], ◌∷◌, ◌==◌, Float}
+use Rattle.std.specs.Prelude.{ℕ, ◌+◌, ◌-◌, ◌*◌, ◌/◌, ◌^◌, ◌≤◌, cond, List, [], ◌∷◌, ◌==◌, ⊤, Float}
 use Rattle.std.specs.Int.Count.{count_leading_zeros}
 use Rattle.std.specs.Float.Ieee.Positive.{num, den}
 
@@ -16,6 +16,11 @@ horner (c ∷ cs) y = c + upper (horner cs y) y
 unfoldable pub falling : List ℕ → ℕ → ℕ
 falling [] y = 0
 falling (c ∷ cs) y = c - upper (falling cs y) y
+
+-- words that fall from t: each is at most the one before it
+abbrev pub Falls : ℕ → List ℕ → Type 0
+Falls t [] = ⊤
+Falls t (c ∷ cs) = (c ≤ t) × Falls c cs
 
 -- the 53 leading digits of p, rounded; a carry may make them 2 ^ 53
 unfoldable pub rounded : ℕ → ℕ

@@ -46,15 +46,8 @@ pub fn ln(x: f64) -> f64
     0.0 / 0.0
 }
 
-// What sin answers: a number, or the refusal by 12.
-#[derive(Drop)]
-pub enum Sine {
-    Value(f64),
-    Refused,
-}
-
-// The sine of x: NaN of an infinity, and refused where x is finite and beyond 2^20 in size.
-pub fn sin(x: f64) -> Sine
+// The sine of x: NaN of an infinity, and none where x is finite and beyond 2^20 in size, the refusal by 12.
+pub fn sin(x: f64) -> Option<f64>
     ensures { result ≡ sin_of x }
 {
     if x > 1048576.0 {
@@ -64,17 +57,17 @@ pub fn sin(x: f64) -> Sine
         return sin_far(x);
     }
     if x != x {
-        return Sine::Value(x);
+        return Some(x);
     }
-    Sine::Value(sines::sin_near(x))
+    Some(sines::sin_near(x))
 }
 
 // sin beyond 2^20 in size.
-fn sin_far(x: f64) -> Sine
+fn sin_far(x: f64) -> Option<f64>
     ensures { result ≡ sin_far x }
 {
     if num::finite(x) {
-        return Sine::Refused;
+        return None;
     }
-    Sine::Value(0.0 / 0.0)
+    Some(0.0 / 0.0)
 }

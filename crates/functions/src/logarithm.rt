@@ -1,15 +1,36 @@
 // ln of a finite x above zero: e and m from the leading digits, z = (m - 1) / (m + 1) by three divisions, and the series in words.
 ghost use Rattle.std.specs.Prelude.{◌≡◌, ◌+◌, ◌-◌, ◌*◌, ◌/◌, ◌^◌, ◌<◌, ◌≤◌, Bool, false, T, if◌then◌else◌};
-ghost use Rattle.std.specs.Bool.{beq};
 ghost use Rattle.std.specs.Float.Ieee.{neg};
 ghost use Rattle.std.specs.Float.Ieee.Positive.{positive};
-ghost use Rattle.functions.specs.Fraction.{apart};
-ghost use Rattle.functions.specs.Words.{horner, size_of};
+ghost use Rattle.functions.specs.Words.{size_of};
 ghost use Rattle.functions.specs.Exp.{ell};
-ghost use Rattle.functions.specs.Ln.{ln_words, ln_word, z_word, one_of, ln_size, ln_float, unit_of, minus_of, place_of, ln_answer, ln_positive, Digits};
+ghost use Rattle.functions.specs.Ln.{ln_word, z_word, one_of, ln_size, ln_float, unit_of, minus_of, place_of, ln_answer, ln_positive, Digits};
 ghost use Rattle.functions.specs.Laws.Leading.{Leading};
 
+use crate::pack::LEADING;
 use crate::{pack, reduce, word};
+
+// 3/2 as a number of 53 digits is written: from there on m is halved, and so below 1.
+const THREE_HALVES: u64 = 3 << 51;
+
+// The digits of z that a division gives, and how many numbers they can be.
+const TURN: u64 = 21;
+
+const PART: u64 = 1 << TURN;
+
+// 2^62 times 1 + y / 3 + y^2 / 5 + .., y in units of 2^-64.
+const SERIES: [u64; 10] = [
+    4611686018427387904,
+    1537228672809129301,
+    922337203685477580,
+    658812288346769700,
+    512409557603043100,
+    419244183493398900,
+    354745078340568300,
+    307445734561825860,
+    271275648142787523,
+    251578777698996783,
+];
 
 // ln of a finite x above zero.
 pub fn ln_positive(x: f64) -> f64
@@ -18,13 +39,11 @@ pub fn ln_positive(x: f64) -> f64
 {
     let b = f64::to_bits(x);
     let l = leading((b >> 52) & 0x7ff, b & 0xf_ffff_ffff_ffff);
-    let q = l.q;
-    let h = 6755399441055744 <= q;
-    ln_answer(l.c, q, h)
+    ln_answer(l.c, l.q, THREE_HALVES <= l.q)
 }
 
 // q * 2^(c - 53), q of 53 digits.
-#[derive(Drop)]
+#[derive(Clone, Copy)]
 pub struct Head {
     pub q: u64,
     pub c: u64,
@@ -37,11 +56,11 @@ fn leading(field: u64, digits: u64) -> Head
 {
     if 0 < field {
         return Head {
-            q: digits + 4503599627370496,
+            q: digits + LEADING,
             c: field + 52,
         };
     }
-    let z = u64::leading_zeros(digits) as u64;
+    let z = digits.leading_zeros() as u64;
     Head {
         q: digits << (z - 11),
         c: 64 - z,
@@ -56,7 +75,7 @@ fn ln_answer(c: u64, q: u64, h: bool) -> f64
     let p = place_of(c, h);
     let minus = minus_of(p, h);
     let w = ln_word(z_word(q, one_of(h)));
-    ln_float(minus, apart_of(p, 1075), w, like_of(minus, h))
+    ln_float(minus, p.abs_diff(1075), w, minus == h)
 }
 
 // e + 1075.
@@ -78,23 +97,7 @@ fn minus_of(p: u64, h: bool) -> bool
 fn one_of(h: bool) -> u64
     ensures { result ≡ one_of h }
 {
-    if h {
-        9007199254740992
-    } else {
-        4503599627370496
-    }
-}
-
-fn apart_of(a: u64, b: u64) -> u64
-    ensures { result ≡ apart a b }
-{
-    if a < b { b - a } else { a - b }
-}
-
-fn like_of(a: bool, b: bool) -> bool
-    ensures { result ≡ beq a b }
-{
-    if a { b } else { !b }
+    if h { 2 * LEADING } else { LEADING }
 }
 
 // z = (q - o) / (q + o) in size, in units of 2^-64: 21 digits at each division.
@@ -103,10 +106,10 @@ fn z_word(q: u64, o: u64) -> u64
     ensures { result ≡ z_word q o }
 {
     let m = (q + o) * 512;
-    let first = reduce::divided(m, apart_of(q, o) * 512, 21);
-    let second = reduce::divided(m, first.left, 21);
-    let third = reduce::divided(m, second.left, 21);
-    first.k * 8796093022208 + second.k * 4194304 + third.k * 2
+    let first = reduce::divided(m, q.abs_diff(o) * 512, TURN);
+    let second = reduce::divided(m, first.left, TURN);
+    let third = reduce::divided(m, second.left, TURN);
+    2 * ((first.k * PART + second.k) * PART + third.k)
 }
 
 // z + z^3 / 3 + .. in units of 2^-62, f being z in units of 2^-64 and at most 1 / 5.
@@ -114,24 +117,7 @@ fn ln_word(f: u64) -> u64
     requires { f ≤ 3689348814741910324 }
     ensures { result ≡ ln_word f }
 {
-    word::upper(f, ln_sum(word::upper(f, f)))
-}
-
-// 2^62 times 1 + y / 3 + y^2 / 5 + .., y in units of 2^-64.
-fn ln_sum(y: u64) -> u64
-    requires { y ≤ 2 ^ 62 }
-    ensures { result ≡ horner ln_words y }
-{
-    let a9 = word::next(251578777698996783, 0, y);
-    let a8 = word::next(271275648142787523, a9, y);
-    let a7 = word::next(307445734561825860, a8, y);
-    let a6 = word::next(354745078340568300, a7, y);
-    let a5 = word::next(419244183493398900, a6, y);
-    let a4 = word::next(512409557603043100, a5, y);
-    let a3 = word::next(658812288346769700, a4, y);
-    let a2 = word::next(922337203685477580, a3, y);
-    let a1 = word::next(1537228672809129301, a2, y);
-    word::next(4611686018427387904, a1, y)
+    word::upper(f, word::horner(&SERIES, word::upper(f, f)))
 }
 
 // e L and the series, added or taken away, with the sign.

@@ -4,6 +4,9 @@ ghost use Rattle.std.specs.Float.{binary64};
 ghost use Rattle.std.specs.Float.Ieee.{neg};
 ghost use Rattle.functions.specs.Words.{packed, Room};
 
+// The digit that leads the 53 of a float, which its bits leave out.
+pub const LEADING: u64 = 1 << 52;
+
 // p * 2^(b - 1085), rounded to 53 digits.
 pub fn nearest(b: u64, p: u64) -> f64
     requires { Room b p }
@@ -23,7 +26,7 @@ pub fn signed(minus: bool, b: u64, p: u64) -> f64
 fn sign_bit(minus: bool) -> u64
     ensures { result ≡ (if minus then 2 ^ 63 else 0) }
 {
-    if minus { 0x8000_0000_0000_0000 } else { 0 }
+    u64::from(minus) << 63
 }
 
 fn packed_bits(b: u64, p: u64) -> u64
@@ -33,7 +36,7 @@ fn packed_bits(b: u64, p: u64) -> u64
     if p == 0 {
         return 0;
     }
-    let z = u64::leading_zeros(p) as u64;
+    let z = p.leading_zeros() as u64;
     let digits = (((p << z) >> 10) + 1) >> 1;
-    (b - z) * 4503599627370496 + digits
+    (b - z) * LEADING + digits
 }

@@ -6,8 +6,10 @@ ghost use Rattle.num.specs.Floats.{sign};
 ghost use Rattle.functions.specs.Words.{size_of};
 ghost use Rattle.functions.specs.Reduction.{nearest_of, left_of, below_of, k_of, f_top};
 
+use crate::pack::LEADING;
+
 // k, the size of f in units of 2^-64, and whether the size is below k times the modulus.
-#[derive(Drop)]
+#[derive(Clone, Copy)]
 pub struct Parts {
     pub k: u64,
     pub f: u64,
@@ -39,7 +41,7 @@ fn reduced(m: u64, field: u64, digits: u64) -> Parts
     if field < 1021 {
         return small(field, digits);
     }
-    let p = divided(m, (digits + 4503599627370496) * 256, field - 1021);
+    let p = divided(m, (digits + LEADING) * 256, field - 1021);
     if 2 * p.left < m {
         Parts {
             k: p.k,
@@ -67,7 +69,7 @@ fn small(field: u64, digits: u64) -> Parts
             under: false,
         };
     }
-    let q = digits + 4503599627370496;
+    let q = digits + LEADING;
     Parts {
         k: 0,
         f: (q * 512) >> (1020 - field),
@@ -75,7 +77,7 @@ fn small(field: u64, digits: u64) -> Parts
     }
 }
 
-#[derive(Drop)]
+#[derive(Clone, Copy)]
 pub struct Quotient {
     pub k: u64,
     pub left: u64,
@@ -100,10 +102,7 @@ pub fn divided(m: u64, start: u64, n: u64) -> Quotient
 
 // a - k * m, wrapped.
 fn taken(a: u64, k: u64, m: u64) -> u64
-    requires { (k ≤ 2 ^ 22) × (m < 2 ^ 63) }
     ensures { (result + k * m) % 2 ^ 64 ≡ a }
 {
-    let low = k * (m % 4294967296);
-    let high = k * (m >> 32);
-    std::num::wrapping_sub_u64(a, std::num::wrapping_add_u64(low, high << 32))
+    a.wrapping_sub(k.wrapping_mul(m))
 }

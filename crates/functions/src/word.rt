@@ -1,21 +1,41 @@
-// Words of 64 bits as fixed-point numbers: the upper half of a product, and one step of Horner's rule.
+// Words of 64 bits as fixed-point numbers: the upper half of a product, and sums by Horner's rule.
 ghost use Rattle.std.specs.Prelude.{◌≡◌, ◌+◌, ◌-◌, ◌*◌, ◌/◌, ◌^◌, ◌≤◌};
+ghost use Rattle.functions.specs.Words.{horner, falling, Falls};
 
-// a * b / 2^64, by the halves of a and b. The compiler makes one multiplication of it.
+// a * b / 2^64.
 pub fn upper(a: u64, b: u64) -> u64
     ensures { result ≡ a * b / 2 ^ 64 }
 {
-    let a1 = a >> 32;
-    let a0 = a % 4294967296;
-    let b1 = b >> 32;
-    let b0 = b % 4294967296;
-    let middle = a1 * b0 + ((a0 * b0) >> 32);
-    let cross = a0 * b1 + middle % 4294967296;
-    a1 * b1 + (middle >> 32) + (cross >> 32)
+    ((a as u128 * b as u128) >> 64) as u64
 }
 
-// c + a * y, y in units of 2^-64.
-pub fn next(c: u64, a: u64, y: u64) -> u64
+// c0 + y (c1 + y (c2 + ..)), y in units of 2^-64, from the last word on.
+pub fn horner<const N: usize>(words: &[u64; N], y: u64) -> u64
+    requires within { y ≤ 2 ^ 62 }
+    requires falls { Falls (2 ^ 62) words.now }
+    ensures { result ≡ horner words.now y }
+{
+    let mut a = 0;
+    for &c in words.iter().rev() {
+        a = next(c, a, y);
+    }
+    a
+}
+
+// c0 - y (c1 - y (c2 - ..)).
+pub fn falling<const N: usize>(words: &[u64; N], y: u64) -> u64
+    requires { Falls (2 ^ 62) words.now }
+    ensures { result ≡ falling words.now y }
+{
+    let mut a = 0;
+    for &c in words.iter().rev() {
+        a = less(c, a, y);
+    }
+    a
+}
+
+// c + a * y.
+fn next(c: u64, a: u64, y: u64) -> u64
     requires { (c ≤ 2 ^ 62) × (y ≤ 2 ^ 62) }
     ensures { result ≡ c + a * y / 2 ^ 64 }
 {
@@ -23,7 +43,7 @@ pub fn next(c: u64, a: u64, y: u64) -> u64
 }
 
 // c - a * y.
-pub fn less(c: u64, a: u64, y: u64) -> u64
+fn less(c: u64, a: u64, y: u64) -> u64
     requires { a ≤ c }
     ensures { (result ≡ c - a * y / 2 ^ 64) × (result ≤ c) }
 {

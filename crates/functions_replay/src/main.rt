@@ -2,7 +2,6 @@
 // definitions give, and the correctly rounded value, each a little-endian word. It tells how many answers differ, and how far the answers are from the correctly rounded values.
 #![tactic(auto)]
 
-use functions::Sine;
 use std::io::Read;
 
 const EXP: u64 = 1;
@@ -99,8 +98,8 @@ fn answer(which: u64, x: f64) -> u64 {
         return bits_of(functions::ln(x));
     }
     match functions::sin(x) {
-        Sine::Value(r) => bits_of(r),
-        Sine::Refused => REFUSED_BITS,
+        Some(r) => bits_of(r),
+        None => REFUSED_BITS,
     }
 }
 

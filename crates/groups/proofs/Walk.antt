@@ -8,7 +8,7 @@ use native.Mathlib.Omega.{arith}
 use lib.ListN.{length}
 use lib.Ieee.{Float}
 use Rattle.sheet.specs.declared.Element.{Element}
-use Rattle.sheet.specs.declared.Decoded.{Decoded}
+use Rattle.sheet.specs.Record.{Decoded}
 use Rattle.sheet.specs.Check.{records_of}
 use Rattle.stamps.specs.Write.{Write, stamped}
 use Rattle.stamps.specs.Laws.Write.{joined, stamped-length}

@@ -1,6 +1,6 @@
 -- The diodes: each is linearized at the last solved vector, from its own memory. One whose current is not finite ends the stamping.
 -- Clients cite Stamped, stamped_of and diodes_of.
-use Rattle.std.specs.Prelude.{ℕ, cond, List, eqb, get_or, set, Float}
+use Rattle.std.specs.Prelude.{ℕ, cond, List, eqb, get_or, set, Option, Some, None, Float}
 use Rattle.std.specs.Float.{nan}
 use Rattle.numbers.specs.Verdicts.{diode_current}
 use Rattle.options.specs.declared.Options.{Options}
@@ -10,8 +10,7 @@ use Rattle.sheet.specs.declared.Element.TheVariants.{R, I, «V», D, Isin, Vsin,
 use Rattle.sheet.specs.Check.{records_of}
 use Rattle.stamps.specs.Write.{stamped}
 use Rattle.stamps.specs.Kinds.{diode_writes}
-use Rattle.models.specs.declared.diode.Linear.{Linear}
-use Rattle.models.specs.declared.diode.Linear.TheVariants.{Model, NotFinite}
+use Rattle.models.specs.declared.diode.Model.{Model}
 use Rattle.models.specs.Diode.{linearized}
 use Rattle.groups.specs.Records.{element_at, on_record, across}
 
@@ -25,9 +24,9 @@ abbrev pub stamped_of : ℕ → List Float → List Float → Stamped
 stamped_of code m y = record { code = code; matrix = m; memory = y }
 
 -- the diode of record i takes its new voltage into the memory and writes its model; "22 diode current not finite" changes neither
-abbrev pub companion : ℕ → ℕ → ℕ → ℕ → Linear → List Float → List Float → Stamped
-companion n i a b (Model g c v) m y = stamped_of 0 (stamped n (diode_writes n a b g c) m) (set y i v)
-companion n i a b NotFinite m y = stamped_of diode_current m y
+abbrev pub companion : ℕ → ℕ → ℕ → ℕ → Option Model → List Float → List Float → Stamped
+companion n i a b (Some l) m y = stamped_of 0 (stamped n (diode_writes n a b l.g l.i) m) (set y i l.memory)
+companion n i a b None m y = stamped_of diode_current m y
 
 -- one element, at the last solved vector x
 unfoldable pub biased : Options → ℕ → List Float → ℕ → List Float → List Float → Element → Stamped

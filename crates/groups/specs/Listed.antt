@@ -5,17 +5,16 @@ use Rattle.numbers.specs.Kinds.{diode}
 use Rattle.numbers.specs.Limits.{most_records}
 use Rattle.options.specs.declared.Options.{Options}
 use Rattle.loops.specs.Loop.{turns}
-use Rattle.sheet.specs.declared.Decoded.{Decoded}
-use Rattle.sheet.specs.declared.Decoded.TheVariants.{Good, Refused}
-use Rattle.sheet.specs.Record.{record_at, diode_of}
+use Rattle.std.specs.declared.result.Result.TheVariants.{Ok, Err}
+use Rattle.sheet.specs.Record.{Decoded, record_at, diode_of}
 use Rattle.sheet.specs.Check.{records_of}
 use Rattle.groups.specs.Records.{record_in}
 use Rattle.groups.specs.Diodes.{Stamped, stamped_of, biased, biased_at}
 
 -- whether a record has an element
 abbrev pub good_of : Decoded → Bool
-good_of (Good e) = true
-good_of (Refused k) = false
+good_of (Ok e) = true
+good_of (Err k) = false
 
 -- whether record i is a diode
 unfoldable pub diode_in : List ℕ → ℕ → Bool

@@ -2,10 +2,10 @@
 use Rattle.std.specs.Prelude.{ℕ, zero, suc, Bool, cond, ◌||◌, List, [], ◌++◌, ltb, get_or, Float}
 use Rattle.std.specs.Float.Ieee as Ieee
 use Rattle.std.specs.Float.{nan, binary64}
+use Rattle.numbers.specs.declared.refusal.Refusal.{Refusal}
 use Rattle.sheet.specs.declared.Element.{Element}
-use Rattle.sheet.specs.declared.Decoded.{Decoded}
-use Rattle.sheet.specs.declared.Decoded.TheVariants.{Good, Refused}
-use Rattle.sheet.specs.Record.{record_at, kind_at, decode_of}
+use Rattle.std.specs.declared.result.Result.TheVariants.{Ok, Err}
+use Rattle.sheet.specs.Record.{Decoded, record_at, kind_at, decode_of}
 use Rattle.stamps.specs.Write.{Write}
 
 -- what record i decodes to
@@ -18,7 +18,7 @@ outside low high kind = ltb kind low || ltb high kind
 
 -- record i, not decoded where a test holds of its kind
 abbrev pub unless : (ℕ → Bool) → List ℕ → ℕ → Decoded
-unless skip sheet i = cond (skip (kind_at sheet i)) (Refused 0) (element_at sheet i)
+unless skip sheet i = cond (skip (kind_at sheet i)) (Err Refusal.Kind) (element_at sheet i)
 
 -- record i, not decoded where its kind is outside
 unfoldable pub record_in : ℕ → ℕ → List ℕ → ℕ → Decoded
@@ -26,8 +26,8 @@ record_in low high sheet i = unless (outside low high) sheet i
 
 -- what a group makes of a record's element; x where it has none
 abbrev pub on_record : {X : Type 0} → (Element → X) → X → Decoded → X
-on_record f x (Good e) = f e
-on_record f x (Refused k) = x
+on_record f x (Ok e) = f e
+on_record f x (Err k) = x
 
 -- what the first k records write, in list order; f is told each record's number
 unfoldable pub writes_of : (ℕ → Element → List Write) → List ℕ → ℕ → List Write

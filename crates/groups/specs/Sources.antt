@@ -1,5 +1,5 @@
 -- The independent sources: Isin, Vsin and Vpwl at the time of a pass. A sine that is refused ends the stamping. Clients cite Driven and independent_of.
-use Rattle.std.specs.Prelude.{ℕ, cond, List, eqb, Float}
+use Rattle.std.specs.Prelude.{ℕ, cond, List, eqb, Option, Some, None, Float}
 use Rattle.std.specs.Float.Ieee as Ieee
 use Rattle.std.specs.Float.{binary64}
 use Rattle.numbers.specs.Verdicts.{sine_refused}
@@ -11,8 +11,6 @@ use Rattle.sheet.specs.Row.{row_of}
 use Rattle.sheet.specs.Check.{records_of}
 use Rattle.stamps.specs.Write.{Write, stamped}
 use Rattle.stamps.specs.Kinds.{current_writes, voltage_writes}
-use Rattle.models.specs.declared.sine.Level.{Level}
-use Rattle.models.specs.declared.sine.Level.TheVariants.{Value, Refused}
 use Rattle.models.specs.Sine.{sine_at}
 use Rattle.models.specs.Vpwl.{pattern_of, points_from}
 use Rattle.groups.specs.declared.Pass.{Pass}
@@ -27,9 +25,9 @@ abbrev pub driven_of : ℕ → List Float → Driven
 driven_of code m = record { code = code; matrix = m }
 
 -- what a source writes at its level; "26 sine refused by 12"
-abbrev pub levelled : ℕ → (Float → List Write) → Level → List Float → Driven
-levelled n f (Value x) m = driven_of 0 (stamped n (f x) m)
-levelled n f Refused m = driven_of sine_refused m
+abbrev pub levelled : ℕ → (Float → List Write) → Option Float → List Float → Driven
+levelled n f (Some x) m = driven_of 0 (stamped n (f x) m)
+levelled n f None m = driven_of sine_refused m
 
 -- the time at which sources have their level: 0.0 at DC, the end of the step in the transient
 abbrev pub source_time : Pass → Float

@@ -1,5 +1,5 @@
 // The diodes: each is linearized at the last solved vector, from its own memory. One whose current is not finite ends the stamping.
-ghost use Rattle.std.specs.Prelude.{◌≡◌, ◌-◌, min, length};
+ghost use Rattle.std.specs.Prelude.{◌≡◌, ◌-◌, length};
 ghost use Rattle.numbers.specs.Limits.{most_records};
 ghost use Rattle.loops.specs.Loop.{turns};
 ghost use Rattle.sheet.specs.Check.{records_of};
@@ -7,17 +7,21 @@ ghost use Rattle.groups.specs.Diodes.{stamped_of, companion, biased, biased_at};
 ghost use Rattle.groups.specs.Listed.{diode_in, places_of, diode_places, as_diode, listed_at, rest_at, listed_of};
 
 use super::records::{across, number_at, put, record_in};
-use models::diode::Linear;
-use numbers::{kind, limit, verdict};
+use models::diode::{Diode, Model};
+use numbers::kind::Kind;
+use numbers::refusal::Refusal;
+use numbers::{limit, verdict};
 use options::Options;
-use sheet::{Decoded, Element};
+use sheet::Element;
+use stamps::Ends;
 
 // Writes the places of the diodes at the front of `places`, in rising order, leaves the bytes after them as they were, and answers how many they are.
 // It walks the first 256 records, or as many as `places` has bytes if that is fewer.
+// kept: a lent list with a count of what stands in it: no heap, and it is filled once for all passes.
 pub fn list_diodes(sheet: &[u8], places: &mut [u8]) -> usize
     ensures { places_of result places.new ≡ diode_places sheet.now places.old }
 {
-    let count = walked(sheet::records(sheet), places.len());
+    let count = sheet::records(sheet).min(limit::RECORDS).min(places.len());
     let mut found = 0;
     for i in 0..count {
         if diode_in(sheet, i) {
@@ -28,26 +32,11 @@ pub fn list_diodes(sheet: &[u8], places: &mut [u8]) -> usize
     found
 }
 
-// The least of two numbers and the most records that can be listed.
-fn walked(a: usize, b: usize) -> usize
-    ensures { result ≡ min (min a most_records) b }
-{
-    let most = if a < limit::RECORDS {
-        a
-    } else {
-        limit::RECORDS
-    };
-    if most < b { most } else { b }
-}
-
 // Whether record i is a diode.
 fn diode_in(sheet: &[u8], i: usize) -> bool
     ensures { result ≡ diode_in sheet.now i }
 {
-    let Decoded::Good(_) = record_in(sheet, i, kind::DIODE, kind::DIODE) else {
-        return false;
-    };
-    true
+    record_in(sheet, i, Kind::Diode, Kind::Diode).is_ok()
 }
 
 // Stamps the records at `places`, each as a diode at the vector x, and then the diodes after the first 256 records, and answers 0 or the verdict that ended it.
@@ -173,19 +162,14 @@ fn diode_one(
     };
     let from = p.0 as usize;
     let to = q.0 as usize;
-    let l = models::diode::linearize_at(
-        o.gmin,
-        i_sat,
-        models::diode::thermal_voltage(o, tdegc),
-        across(x, from, to),
-        number_at(memory, i),
-    );
+    let d = Diode::new(o, i_sat, tdegc, number_at(memory, i));
+    let l = d.linearize_at(across(x, from, to));
     stamp_model(l, n, i, from, to, memory, m)
 }
 
 // A diode's model and its new memory.
 fn stamp_model(
-    l: Linear,
+    l: Option<Model>,
     n: usize,
     i: usize,
     a: usize,
@@ -195,15 +179,10 @@ fn stamp_model(
 ) -> u8
     ensures { stamped_of result m.new memory.new ≡ companion n i a b l m.old memory.old }
 {
-    let Linear::Model {
-        g,
-        i: current,
-        memory: v,
-    } = l
-    else {
+    let Some(l) = l else {
         return verdict::DIODE_CURRENT;
     };
-    put(memory, i, v);
-    stamps::stamp_diode(m, n, a, b, g, current);
+    put(memory, i, l.memory);
+    stamps::stamp_diode(m, n, Ends { a, b }, l.g, l.i);
     0
 }

@@ -27,7 +27,7 @@ pub struct Pass {
 pub fn stamp_base(sheet: &[u8], nodes: usize, order: usize, base: &mut [f64])
     ensures { base.new ≡ base_of nodes order sheet.now base.old }
 {
-    loops::fill(base, 0.0);
+    base.fill(0.0);
     plain::stamp_base(sheet, nodes, order, base);
 }
 

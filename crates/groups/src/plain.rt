@@ -6,8 +6,10 @@ ghost use Rattle.groups.specs.Records.{on_record};
 ghost use Rattle.groups.specs.Plain.{base_writes, dependent_writes, based_on, dependent_of};
 
 use super::records::record_in;
-use numbers::kind;
-use sheet::{Decoded, Element, NodeId};
+use numbers::kind::Kind;
+use numbers::refusal::Refusal;
+use sheet::{Element, NodeId};
+use stamps::Ends;
 
 // Stamps I, R and V, in the order of the records.
 pub fn stamp_base(sheet: &[u8], nodes: usize, n: usize, m: &mut [f64])
@@ -16,7 +18,7 @@ pub fn stamp_base(sheet: &[u8], nodes: usize, n: usize, m: &mut [f64])
     let count = sheet::records(sheet);
     for i in 0..count {
         base_one(
-            record_in(sheet, i, kind::RESISTOR, kind::VOLTAGE),
+            record_in(sheet, i, Kind::Resistor, Kind::Voltage),
             nodes,
             n,
             m,
@@ -30,23 +32,31 @@ pub fn stamp_dependent(sheet: &[u8], nodes: usize, n: usize, m: &mut [f64])
 {
     let count = sheet::records(sheet);
     for i in 0..count {
-        dependent_one(record_in(sheet, i, kind::VCVS, kind::VCCS), nodes, n, m);
+        dependent_one(record_in(sheet, i, Kind::Vcvs, Kind::Vccs), nodes, n, m);
     }
 }
 
 // What a record writes into the base.
-fn base_one(d: Decoded, nodes: usize, n: usize, m: &mut [f64])
+fn base_one(d: Result<Element, Refusal>, nodes: usize, n: usize, m: &mut [f64])
     ensures { m.new ≡ stamped n (on_record (base_writes nodes n) [] d) m.old }
 {
-    let Decoded::Good(e) = d else {
+    let Ok(e) = d else {
         return;
     };
     match e {
         Element::R { a, b, value } => {
-            stamps::stamp_resistor(m, n, a.0 as usize, b.0 as usize, value);
+            let ends = Ends {
+                a: a.0 as usize,
+                b: b.0 as usize,
+            };
+            stamps::stamp_resistor(m, n, ends, value);
         }
         Element::I { p, n: q, value } => {
-            stamps::stamp_current(m, n, p.0 as usize, q.0 as usize, value);
+            let ends = Ends {
+                a: p.0 as usize,
+                b: q.0 as usize,
+            };
+            stamps::stamp_current(m, n, ends, value);
         }
         Element::V {
             p,
@@ -55,17 +65,21 @@ fn base_one(d: Decoded, nodes: usize, n: usize, m: &mut [f64])
             source,
         } => {
             let s = sheet::row_of(nodes, source);
-            stamps::stamp_voltage(m, n, s, p.0 as usize, q.0 as usize, value);
+            let ends = Ends {
+                a: p.0 as usize,
+                b: q.0 as usize,
+            };
+            stamps::stamp_voltage(m, n, s, ends, value);
         }
         _ => {}
     }
 }
 
 // What a record writes as a dependent source.
-fn dependent_one(d: Decoded, nodes: usize, n: usize, m: &mut [f64])
+fn dependent_one(d: Result<Element, Refusal>, nodes: usize, n: usize, m: &mut [f64])
     ensures { m.new ≡ stamped n (on_record (dependent_writes nodes n) [] d) m.old }
 {
-    let Decoded::Good(e) = d else {
+    let Ok(e) = d else {
         return;
     };
     match e {
@@ -92,29 +106,28 @@ fn dependent_one(d: Decoded, nodes: usize, n: usize, m: &mut [f64])
 fn vcvs(n: usize, s: usize, p: NodeId, q: NodeId, cp: NodeId, cq: NodeId, k: f64, m: &mut [f64])
     ensures { m.new ≡ stamped n (vcvs_writes s p.0 q.0 cp.0 cq.0 k) m.old }
 {
-    stamps::stamp_vcvs(
-        m,
-        n,
-        s,
-        p.0 as usize,
-        q.0 as usize,
-        cp.0 as usize,
-        cq.0 as usize,
-        k,
-    );
+    let ends = Ends {
+        a: p.0 as usize,
+        b: q.0 as usize,
+    };
+    let controls = Ends {
+        a: cp.0 as usize,
+        b: cq.0 as usize,
+    };
+    stamps::stamp_vcvs(m, n, s, ends, controls, k);
 }
 
 // A current of k times the voltage from cp to cq.
 fn vccs(n: usize, p: NodeId, q: NodeId, cp: NodeId, cq: NodeId, k: f64, m: &mut [f64])
     ensures { m.new ≡ stamped n (vccs_writes p.0 q.0 cp.0 cq.0 k) m.old }
 {
-    stamps::stamp_vccs(
-        m,
-        n,
-        p.0 as usize,
-        q.0 as usize,
-        cp.0 as usize,
-        cq.0 as usize,
-        k,
-    );
+    let ends = Ends {
+        a: p.0 as usize,
+        b: q.0 as usize,
+    };
+    let controls = Ends {
+        a: cp.0 as usize,
+        b: cq.0 as usize,
+    };
+    stamps::stamp_vccs(m, n, ends, controls, k);
 }

@@ -1,30 +1,30 @@
 // The records of a sheet as a group sees them, and reads and writes of a vector that may be too short.
 ghost use Rattle.std.specs.Prelude.{◌≡◌, get_or, set};
 ghost use Rattle.std.specs.Float.{nan};
+ghost use Rattle.numbers.specs.Kinds.{number_of};
 ghost use Rattle.groups.specs.Records.{record_in, across as acrossOf};
 
-use sheet::Decoded;
+use numbers::kind::Kind;
+use numbers::refusal::Refusal;
+use sheet::Element;
 
 // Record i, decoded only where its kind is among those from low to high.
-pub fn record_in(sheet: &[u8], i: usize, low: u8, high: u8) -> Decoded
-    ensures { result ≡ record_in low high sheet.now i }
+pub fn record_in(sheet: &[u8], i: usize, low: Kind, high: Kind) -> Result<Element, Refusal>
+    ensures { result ≡ record_in (number_of low) (number_of high) sheet.now i }
 {
     let kind = sheet::kind_at(sheet, i);
-    if kind < low {
-        return Decoded::Refused(0);
-    }
-    if high < kind {
-        return Decoded::Refused(0);
+    if kind < low.number() || high.number() < kind {
+        return Err(Refusal::Kind);
     }
     sheet::element_at(sheet, i)
 }
 
 // Record i, decoded only where it is of this kind, and then as no other: a pass over one kind is not slowed by the rest.
-pub fn record_of(sheet: &[u8], i: usize, kind: u8) -> Decoded
-    ensures { result ≡ record_in kind kind sheet.now i }
+pub fn record_of(sheet: &[u8], i: usize, kind: Kind) -> Result<Element, Refusal>
+    ensures { result ≡ record_in (number_of kind) (number_of kind) sheet.now i }
 {
-    if sheet::kind_at(sheet, i) != kind {
-        return Decoded::Refused(0);
+    if sheet::kind_at(sheet, i) != kind.number() {
+        return Err(Refusal::Kind);
     }
     sheet::element_as(sheet, i, kind)
 }

@@ -2,17 +2,19 @@
 ghost use Rattle.std.specs.Prelude.{◌≡◌};
 ghost use Rattle.sheet.specs.Row.{row_of};
 ghost use Rattle.stamps.specs.Kinds.{current_writes, voltage_writes};
-ghost use Rattle.models.specs.declared.sine.Level.TheVariants.{Value};
 ghost use Rattle.models.specs.Vpwl.{pattern_of, points_from};
 ghost use Rattle.groups.specs.Sources.{driven_of, source_time, levelled, driven, driven_at, independent_of};
 ghost use Rattle.groups.specs.Records.{on_record};
 
 use super::Pass;
 use super::records::record_in;
-use models::sine::{Level, evaluate};
+use models::sine::evaluate;
 use models::vpwl;
-use numbers::{kind, verdict};
-use sheet::{Decoded, Element, NodeId, SourceId};
+use numbers::kind::Kind;
+use numbers::refusal::Refusal;
+use numbers::verdict;
+use sheet::{Element, NodeId, SourceId};
+use stamps::Ends;
 
 // Stamps the sources at the pass's time, in the order of the records, and answers 0 or the verdict that ended it.
 pub fn stamp_independent(w: Pass, sheet: &[u8], points: &[u8], m: &mut [f64]) -> u8
@@ -33,14 +35,14 @@ fn source_at(code: u8, w: Pass, sheet: &[u8], points: &[u8], i: usize, m: &mut [
     if code != 0 {
         return code;
     }
-    source_one(record_in(sheet, i, kind::ISIN, kind::VPWL), w, points, m)
+    source_one(record_in(sheet, i, Kind::Isin, Kind::Vpwl), w, points, m)
 }
 
 // What a record writes as a source.
-fn source_one(d: Decoded, w: Pass, points: &[u8], m: &mut [f64]) -> u8
+fn source_one(d: Result<Element, Refusal>, w: Pass, points: &[u8], m: &mut [f64]) -> u8
     ensures { driven_of result m.new ≡ on_record (driven w points.now m.old) (driven_of 0 m.old) d }
 {
-    let Decoded::Good(e) = d else {
+    let Ok(e) = d else {
         return 0;
     };
     match e {
@@ -68,7 +70,7 @@ fn source_one(d: Decoded, w: Pass, points: &[u8], m: &mut [f64]) -> u8
             source,
         } => {
             let v = pattern(w, points, first, count, t_delay, repeat);
-            voltage(v, w.nodes, w.order, source, p, n, m)
+            voltage(Some(v), w.nodes, w.order, source, p, n, m)
         }
         _ => 0,
     }
@@ -81,11 +83,11 @@ fn source_time(w: Pass) -> f64
     if w.transient { w.time + w.step } else { 0.0 }
 }
 
-// The level of a pattern, which is never refused.
-fn pattern(w: Pass, points: &[u8], first: u16, count: u16, t_delay: f64, repeat: f64) -> Level
-    ensures { result ≡ Value (pattern_of w.pattern_first (points_from points.now first count) t_delay repeat (source_time w)) }
+// The level of a pattern, which always has one.
+fn pattern(w: Pass, points: &[u8], first: u16, count: u16, t_delay: f64, repeat: f64) -> f64
+    ensures { result ≡ pattern_of w.pattern_first (points_from points.now first count) t_delay repeat (source_time w) }
 {
-    let v = vpwl::level(
+    vpwl::level(
         w.pattern_first,
         points,
         first as usize,
@@ -93,24 +95,27 @@ fn pattern(w: Pass, points: &[u8], first: u16, count: u16, t_delay: f64, repeat:
         t_delay,
         repeat,
         source_time(w),
-    );
-    Level::Value(v)
+    )
 }
 
 // A current at its level.
-fn current(l: Level, n: usize, p: NodeId, q: NodeId, m: &mut [f64]) -> u8
+fn current(l: Option<f64>, n: usize, p: NodeId, q: NodeId, m: &mut [f64]) -> u8
     ensures { driven_of result m.new ≡ levelled n (current_writes n p.0 q.0) l m.old }
 {
-    let Level::Value(x) = l else {
+    let Some(x) = l else {
         return verdict::SINE_REFUSED;
     };
-    stamps::stamp_current(m, n, p.0 as usize, q.0 as usize, x);
+    let ends = Ends {
+        a: p.0 as usize,
+        b: q.0 as usize,
+    };
+    stamps::stamp_current(m, n, ends, x);
     0
 }
 
 // A voltage at its level.
 fn voltage(
-    l: Level,
+    l: Option<f64>,
     nodes: usize,
     n: usize,
     source: SourceId,
@@ -120,10 +125,14 @@ fn voltage(
 ) -> u8
     ensures { driven_of result m.new ≡ levelled n (voltage_writes n (row_of nodes source) p.0 q.0) l m.old }
 {
-    let Level::Value(x) = l else {
+    let Some(x) = l else {
         return verdict::SINE_REFUSED;
     };
     let s = sheet::row_of(nodes, source);
-    stamps::stamp_voltage(m, n, s, p.0 as usize, q.0 as usize, x);
+    let ends = Ends {
+        a: p.0 as usize,
+        b: q.0 as usize,
+    };
+    stamps::stamp_voltage(m, n, s, ends, x);
     0
 }

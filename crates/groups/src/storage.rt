@@ -8,8 +8,10 @@ ghost use Rattle.groups.specs.Storage.{capacitor_in, inductor_in, storage_writes
 
 use super::Pass;
 use super::records::{across, number_at, put, record_of};
-use numbers::kind;
-use sheet::{Decoded, Element, NodeId, SourceId};
+use numbers::kind::Kind;
+use numbers::refusal::Refusal;
+use sheet::{Element, NodeId, SourceId};
+use stamps::Ends;
 
 // Stamps C and L, in the order of the records; x is the last accepted vector.
 pub fn stamp_storage(p: Pass, sheet: &[u8], x: &[f64], memory: &[f64], m: &mut [f64])
@@ -26,12 +28,12 @@ fn storage_at(p: Pass, sheet: &[u8], i: usize, x: &[f64], memory: &[f64], m: &mu
     ensures { m.new ≡ stamped p.order (on_record (storage_writes p x.now memory.now i) [] (element_at sheet.now i)) m.old }
 {
     let k = sheet::kind_at(sheet, i);
-    if k < kind::CAPACITOR {
+    if k < Kind::Capacitor.number() {
         return;
     }
-    if k == kind::INDUCTOR {
+    if k == Kind::Inductor.number() {
         storage_one(
-            sheet::element_as(sheet, i, kind::INDUCTOR),
+            sheet::element_as(sheet, i, Kind::Inductor),
             p,
             i,
             x,
@@ -40,9 +42,9 @@ fn storage_at(p: Pass, sheet: &[u8], i: usize, x: &[f64], memory: &[f64], m: &mu
         );
         return;
     }
-    if (k == kind::CAPACITOR) & p.transient {
+    if (k == Kind::Capacitor.number()) & p.transient {
         storage_one(
-            sheet::element_as(sheet, i, kind::CAPACITOR),
+            sheet::element_as(sheet, i, Kind::Capacitor),
             p,
             i,
             x,
@@ -53,10 +55,17 @@ fn storage_at(p: Pass, sheet: &[u8], i: usize, x: &[f64], memory: &[f64], m: &mu
 }
 
 // What record i writes as a storage element.
-fn storage_one(d: Decoded, p: Pass, i: usize, x: &[f64], memory: &[f64], m: &mut [f64])
+fn storage_one(
+    d: Result<Element, Refusal>,
+    p: Pass,
+    i: usize,
+    x: &[f64],
+    memory: &[f64],
+    m: &mut [f64],
+)
     ensures { m.new ≡ stamped p.order (on_record (storage_writes p x.now memory.now i) [] d) m.old }
 {
-    let Decoded::Good(e) = d else {
+    let Ok(e) = d else {
         return;
     };
     match e {
@@ -79,7 +88,7 @@ fn capacitor(p: Pass, a: NodeId, b: NodeId, value: f64, x: &[f64], m: &mut [f64]
         let from = a.0 as usize;
         let to = b.0 as usize;
         let c = models::capacitor::linearize(value, across(x, from, to), p.step);
-        stamps::stamp_capacitor(m, p.order, from, to, c.g, c.i);
+        stamps::stamp_capacitor(m, p.order, Ends { a: from, b: to }, c.g, c.i);
     }
 }
 
@@ -88,14 +97,16 @@ fn inductor(p: Pass, a: NodeId, b: NodeId, value: f64, source: SourceId, i: f64,
     ensures { m.new ≡ stamped p.order (inductor_in p (row_of p.nodes source) a.0 b.0 value i) m.old }
 {
     let s = sheet::row_of(p.nodes, source);
-    let from = a.0 as usize;
-    let to = b.0 as usize;
+    let ends = Ends {
+        a: a.0 as usize,
+        b: b.0 as usize,
+    };
     if p.transient {
         let g = models::inductor::conductance(value, p.step);
-        stamps::stamp_inductor(m, p.order, s, from, to, g, i);
+        stamps::stamp_inductor(m, p.order, s, ends, g, i);
         return;
     }
-    stamps::stamp_voltage(m, p.order, s, from, to, 0.0);
+    stamps::stamp_voltage(m, p.order, s, ends, 0.0);
 }
 
 // Each inductor takes the current that it has with the vector v of the pass p, where that vector is taken; other records' floats stay.
@@ -104,15 +115,15 @@ pub fn take_currents(p: Pass, sheet: &[u8], v: &[f64], memory: &mut [f64])
 {
     let count = sheet::records(sheet);
     for i in 0..count {
-        take_one(record_of(sheet, i, kind::INDUCTOR), p, i, v, memory);
+        take_one(record_of(sheet, i, Kind::Inductor), p, i, v, memory);
     }
 }
 
 // What record i takes.
-fn take_one(d: Decoded, p: Pass, i: usize, v: &[f64], memory: &mut [f64])
+fn take_one(d: Result<Element, Refusal>, p: Pass, i: usize, v: &[f64], memory: &mut [f64])
     ensures { memory.new ≡ on_record (with_current p v.now i memory.old) memory.old d }
 {
-    let Decoded::Good(e) = d else {
+    let Ok(e) = d else {
         return;
     };
     let Element::L {

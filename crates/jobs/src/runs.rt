@@ -2,7 +2,7 @@
 use super::job::Head;
 use super::parts::within;
 use super::room::Rooms;
-use engine::Outcome;
+use engine::{Input, Outcome};
 
 // How a run ended, and its rooms as it left them.
 #[derive(Drop)]
@@ -60,34 +60,15 @@ fn analysed(
     memory: &mut [f64],
     rows: &mut [f64],
 ) -> Outcome {
-    let o = h.options;
-    let nodes = h.nodes as usize;
-    let sources = h.sources as usize;
-    if h.transient {
-        return engine::transient_analysis(
-            sheet,
-            points,
-            nodes,
-            sources,
-            o,
-            base,
-            system,
-            elimination,
-            vector,
-            memory,
-            rows,
-        );
-    }
-    engine::dc_operating_point(
+    let i = Input {
         sheet,
         points,
-        nodes,
-        sources,
-        o,
-        base,
-        system,
-        elimination,
-        vector,
-        memory,
-    )
+        nodes: h.nodes as usize,
+        sources: h.sources as usize,
+        options: h.options,
+    };
+    if h.transient {
+        return engine::transient_analysis(i, base, system, elimination, vector, memory, rows);
+    }
+    engine::dc_operating_point(i, base, system, elimination, vector, memory)
 }

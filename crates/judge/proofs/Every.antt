@@ -7,8 +7,12 @@ use native.Mathlib.Nat.{not-suc-le-zero, le_of_suc-le-suc}
 use native.Mathlib.Numerals.{add-one}
 use lib.ListN.{length, get_or, take, drop, drop_of_length-le}
 use lib.Seq.{drop-cons, get_or-take, length-take-le}
-use lib.Ieee.{Float}
+use lib.Ieee.{Float, nan, binary64, fits}
+use lib.Dec.{T}
+use denote.Floats.{passes}
+use Rattle.exact.specs.Laws.Sums.{Factor}
 use Rattle.num.specs.Lists.{every}
+use Rattle.judge.specs.Judge.{allowed}
 
 module _ (p : Float → Bool) (d : Float) where
   -- every entry passes: the one at i does
@@ -33,3 +37,7 @@ module _ (p : Float → Bool) (d : Float) where
 
   pub every_end : (xs : List Float) (i : ℕ) → length xs ≤ i → every p (drop i xs) ≡ true
   every_end xs i h = ap (every p) (drop_of_length-le xs h)
+
+-- each of the first k numbers that are all finite can be added
+pub factor : (xs : List Float) (k i : ℕ) → ((j : ℕ) → T (fits binary64 (get_or xs j nan))) → every (allowed false) (take k xs) ≡ true → k ≤ length xs → i < k → Factor (get_or xs i nan)
+factor xs k i w e h l = (w i, passes _ (front_at (allowed false) nan xs k i e h l))

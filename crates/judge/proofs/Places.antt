@@ -9,6 +9,8 @@ use native.Mathlib.Omega.{arith}
 use borrow.Author.Tests.{ne_eqb, le-ltb}
 use lib.ListN.{length, take}
 use lib.Ieee.{Float}
+use Rattle.std.specs.Prelude.{Ok, Err}
+use Rattle.numbers.specs.declared.refusal.Refusal.TheVariants.{Tolerance}
 use Rattle.exact.specs.Exact.{none, times, added}
 use Rattle.num.specs.Lists.{«at», every}
 use Rattle.judge.specs.Judge.{total, named, allowed, judge_refusal}
@@ -59,6 +61,6 @@ nothing m x from = refl
 
 -- where 1 and 5 do not apply, the numbers decide
 pub numbers_decide : (n : ℕ) (m x t : List Float) → (n ≡ 0 → ⊥) → n ≤ 48 → n * (n + 1) ≤ length m → n ≤ length x → n ≤ length t
-    → judge_refusal n m x t ≡ cond (every (allowed false) (take (n * (n + 1)) m) && (every (allowed false) (take n x) && every (allowed true) (take n t))) 0 11
+    → judge_refusal n m x t ≡ cond (every (allowed false) (take (n * (n + 1)) m) && (every (allowed false) (take n x) && every (allowed true) (take n t))) (Ok tt) (Err Tolerance)
 unfolding judge_refusal
 numbers_decide n m x t a b c d e = rw (ne_eqb n 0 a, le-ltb 48 n b, le-ltb (length m) (n * (n + 1)) c, le-ltb (length x) n d, le-ltb (length t) n e)

@@ -1,14 +1,17 @@
 -- What the judge answers. Clients cite judge_of, judge_refusal, Numbers and numbers_of, and the laws in Laws/Judge.antt, here and in proofs, that say exactly when. Definitions only.
-use Rattle.std.specs.Prelude.{◌≡◌, ℕ, zero, suc, ◌+◌, ◌*◌, ◌≤◌, ◌<◌, Bool, true, false, not, cond, ◌&&◌, ◌||◌, List, ltb, eqb, length, take, Float}
+use Rattle.std.specs.Prelude.{◌≡◌, ℕ, zero, suc, ◌+◌, ◌*◌, ◌≤◌, ◌<◌, Bool, true, false, not, cond, ◌&&◌, ◌||◌, List, ltb, eqb, length, take, Float, Result, Ok, Err, ⊤}
+use Rattle.std.specs.Result.{result_and}
 use Rattle.std.specs.Float.Ieee.{lt}
 use Rattle.std.specs.Float.Ieee.Scale.{finite}
 use Rattle.numbers.specs.Limits.{most_unknowns}
-use Rattle.numbers.specs.Refusals.{by_order, by_room, by_tolerance}
+use Rattle.numbers.specs.Refusals.{number_of}
+use Rattle.numbers.specs.declared.refusal.Refusal.{Refusal}
+use Rattle.numbers.specs.declared.refusal.Refusal.TheVariants.{Order, Room, Tolerance}
 use Rattle.num.specs.Floats.{nought}
 use Rattle.num.specs.Lists.{«at», every}
 use Rattle.exact.specs.Exact.{Exact, none, times, whole, added, opposite, within}
 use Rattle.judge.specs.declared.Judged.{Judged}
-use Rattle.judge.specs.declared.Judged.TheVariants.{Accepted, Rejected, Refused}
+use Rattle.judge.specs.declared.Judged.TheVariants.{Accepted, Rejected}
 
 -- ---- a row: n coefficients, then its right side
 
@@ -39,16 +42,16 @@ abbrev pub allowed : Bool → Float → Bool
 allowed false x = finite x
 allowed true x = finite x && not (lt x nought)
 
--- the refusal, 0 if none. 1: no row, or more than 48; 5: a system below N(N+1), a vector or tolerances below N; 11 within those lengths
-unfoldable pub judge_refusal : ℕ → List Float → List Float → List Float → ℕ
+-- what stands against judging. Order: no row, or more than 48; Room: a system below N(N+1), a vector or tolerances below N; Tolerance: a number within those lengths that is not allowed
+unfoldable pub judge_refusal : ℕ → List Float → List Float → List Float → Result ⊤ Refusal
 judge_refusal n m x t =
-    cond (eqb n 0 || ltb most_unknowns n) by_order
-    (cond (ltb (length m) (n * (n + 1)) || (ltb (length x) n || ltb (length t) n)) by_room
-    (cond (every (allowed false) (take (n * (n + 1)) m) && (every (allowed false) (take n x) && every (allowed true) (take n t))) 0 by_tolerance))
+    cond (eqb n 0 || ltb most_unknowns n) (Err Order)
+    (cond (ltb (length m) (n * (n + 1)) || (ltb (length x) n || ltb (length t) n)) (Err Room)
+    (cond (every (allowed false) (take (n * (n + 1)) m) && (every (allowed false) (take n x) && every (allowed true) (take n t))) (Ok tt) (Err Tolerance)))
 
 -- ---- the judge
-unfoldable pub judge_of : ℕ → List Float → List Float → List Float → Judged
-judge_of n m x t = cond (eqb (judge_refusal n m x t) 0) (named (holds n m x t) n 0) (Refused (judge_refusal n m x t))
+unfoldable pub judge_of : ℕ → List Float → List Float → List Float → Result Judged Refusal
+judge_of n m x t = result_and (judge_refusal n m x t) (Ok (named (holds n m x t) n 0))
 
 -- ---- the numbers of an answer
 
@@ -57,10 +60,10 @@ pub record Numbers : Type 0 where
   pub refusal : ℕ
   pub row : ℕ
 
-abbrev pub numbers_of : ℕ → Judged → Numbers
-numbers_of n Accepted = record { refusal = 0; row = n }
-numbers_of n (Rejected i) = record { refusal = 0; row = i }
-numbers_of n (Refused k) = record { refusal = k; row = 0 }
+abbrev pub numbers_of : ℕ → Result Judged Refusal → Numbers
+numbers_of n (Ok Accepted) = record { refusal = 0; row = n }
+numbers_of n (Ok (Rejected i)) = record { refusal = 0; row = i }
+numbers_of n (Err k) = record { refusal = number_of k; row = 0 }
 
 -- ---- what is not refused
 

@@ -8,57 +8,46 @@ ghost use Rattle.exact.specs.Sums.{Sums};
 ghost use Rattle.num.specs.Lists.{every};
 ghost use Rattle.judge.specs.Judge.{allowed as allowedFor, total, residual, holds, named, judge_refusal, judge_of, Readable, Given};
 
-#[derive(Clone, Copy)]
+use numbers::limit::UNKNOWNS;
+use numbers::refusal::Refusal;
+
+#[derive(Clone, Copy, Debug, PartialEq, Eq)]
 pub enum Judged {
     // every row stays within its tolerance
     Accepted,
     // the first row that does not
     Rejected(usize),
-    // by order, room or tolerance: 1, 5 or 11
-    Refused(u8),
 }
 
-// Judges a vector on `rows` rows of rows + 1 numbers, the last of each the right side, with a tolerance for each row.
-pub fn judge(system: &[f64], vector: &[f64], tolerances: &[f64], rows: usize) -> Judged
+// Judges a vector on `rows` rows of rows + 1 numbers, the last of each the right side, with a tolerance for each row. Refused by order, room or tolerance.
+pub fn judge(
+    system: &[f64],
+    vector: &[f64],
+    tolerances: &[f64],
+    rows: usize,
+) -> Result<Judged, Refusal>
     ensures { result ≡ judge_of rows system.now vector.now tolerances.now }
 {
-    let k = refusal(system, vector, tolerances, rows);
-    if k != 0 {
-        return Judged::Refused(k);
-    }
-    judge_rows(system, vector, tolerances, rows)
+    check(system, vector, tolerances, rows)?;
+    Ok(judge_rows(system, vector, tolerances, rows))
 }
 
-// The refusal, 0 if none.
-fn refusal(m: &[f64], x: &[f64], t: &[f64], n: usize) -> u8
+// What stands against judging.
+fn check(m: &[f64], x: &[f64], t: &[f64], n: usize) -> Result<(), Refusal>
     ensures { result ≡ judge_refusal n m.now x.now t.now }
 {
-    if n == 0 {
-        return numbers::refusal::ORDER;
-    }
-    if numbers::limit::UNKNOWNS < n {
-        return numbers::refusal::ORDER;
+    if n == 0 || UNKNOWNS < n {
+        return Err(Refusal::Order);
     }
     let size = n * (n + 1);
-    if m.len() < size {
-        return numbers::refusal::ROOM;
+    if m.len() < size || x.len() < n || t.len() < n {
+        return Err(Refusal::Room);
     }
-    if x.len() < n {
-        return numbers::refusal::ROOM;
+    let finite = all_allowed(&m[..size], false) && all_allowed(&x[..n], false);
+    if !finite || !all_allowed(&t[..n], true) {
+        return Err(Refusal::Tolerance);
     }
-    if t.len() < n {
-        return numbers::refusal::ROOM;
-    }
-    if !all_allowed(&m[..size], false) {
-        return numbers::refusal::TOLERANCE;
-    }
-    if !all_allowed(&x[..n], false) {
-        return numbers::refusal::TOLERANCE;
-    }
-    if !all_allowed(&t[..n], true) {
-        return numbers::refusal::TOLERANCE;
-    }
-    0
+    Ok(())
 }
 
 // On what is not refused.
@@ -84,7 +73,7 @@ fn row_holds(m: &[f64], x: &[f64], n: usize, i: usize, t: f64) -> bool
     let from = i * (n + 1);
     add_row(&mut plus, &mut minus, m, x, from, n);
     let right = from + n;
-    exact::keep(&mut minus, &mut plus, m[right]);
+    exact::keep(&mut minus, &mut plus, m[right]).unwrap();
     exact::within(&plus, &minus, t)
 }
 
@@ -95,7 +84,7 @@ fn add_row(plus: &mut [u64], minus: &mut [u64], m: &[f64], x: &[f64], from: usiz
 {
     for j in 0..n {
         let at = from + j;
-        exact::keep_product(plus, minus, m[at], x[j]);
+        exact::keep_product(plus, minus, m[at], x[j]).unwrap();
     }
 }
 

@@ -3,9 +3,10 @@
 // Writes how many were judged, by answer, and how many differ; each that differs is named by its place, from 0.
 #![tactic(auto)]
 
-ghost use Rattle.std.specs.Prelude.{◌≡◌, ◌+◌, ◌*◌, ◌≤◌, length};
+ghost use Rattle.std.specs.Prelude.{◌≡◌, ◌≤◌};
 
 use judge::Judged;
+use numbers::refusal::Refusal;
 use std::io::Read;
 
 // Systems, and floats of a system and of a vector, that are read at most.
@@ -15,21 +16,26 @@ const MOST_SYSTEM: usize = 2400;
 
 const MOST_VECTOR: usize = 64;
 
+// What a head says of a system that is short enough to be read.
 #[derive(Clone, Copy)]
 struct Head {
     rows: usize,
     system: usize,
     vector: usize,
     tolerances: usize,
-    refusal: u8,
+    refusal: u16,
     row: usize,
+    ghost system_fits: { system ≤ 2400 },
+    ghost vector_fits: { vector ≤ 64 },
+    ghost tolerances_fit: { tolerances ≤ 64 },
 }
 
-#[derive(Drop)]
+// An answer is the one stored beside its system, or not. A system too large to be read has none, and is as stored where that is a refusal beyond all that there are.
+#[derive(Clone, Copy)]
 enum Outcome {
-    Same(Judged),
+    Same(Result<Judged, Refusal>),
+    Unread,
     Differs,
-    End,
 }
 
 #[derive(Clone, Copy)]
@@ -58,103 +64,85 @@ fn replay<P: Print, R: Read>(rt: &P, from: &mut R) -> Tally {
         differ: 0,
     };
     for place in 0..SYSTEMS {
-        let o = one(from);
-        if let Outcome::End = o {
+        let Some(o) = one(from) else {
             return t;
-        }
+        };
         if let Outcome::Differs = o {
-            name(rt, place);
+            let _ = println!(rt; "differs: {place}");
         }
-        t = counted(t, o);
+        t.count(o);
     }
     t
 }
 
-// Reads and judges the next system; a file that ends, or a system too large to be read, is the end.
-fn one<R: Read>(from: &mut R) -> Outcome {
+// Reads and judges the next system; none where the file ends.
+fn one<R: Read>(from: &mut R) -> Option<Outcome> {
     let mut head = [0u8; 16];
     if reading::read_full(from, &mut head) != 16 {
-        return Outcome::End;
+        return None;
     }
-    let h = head_of(&head);
-    let size = size_of(h);
+    let Some(h) = head_of(&head) else {
+        return Some(unread(&head));
+    };
+    let size = 8 * (h.system + h.vector + h.tolerances);
     let mut body = [0; 65536];
     if reading::read_full(from, &mut body[..size]) != size {
-        return Outcome::End;
+        return None;
     }
-    compared(judged(&body, h), h)
+    Some(compared(judged(&body, h), h))
 }
 
-fn head_of(b: &[u8]) -> Head {
-    Head {
+fn head_of(b: &[u8]) -> Option<Head> {
+    let system = num::u16_at(b, 4) as usize;
+    let vector = num::u16_at(b, 6) as usize;
+    let tolerances = num::u16_at(b, 8) as usize;
+    if MOST_SYSTEM < system || MOST_VECTOR < vector || MOST_VECTOR < tolerances {
+        return None;
+    }
+    Some(Head {
         rows: num::u32_at(b, 0) as usize,
-        system: num::u16_at(b, 4) as usize,
-        vector: num::u16_at(b, 6) as usize,
-        tolerances: num::u16_at(b, 8) as usize,
-        refusal: small(num::u16_at(b, 10)),
+        system,
+        vector,
+        tolerances,
+        refusal: num::u16_at(b, 10),
         row: num::u32_at(b, 12) as usize,
-    }
+    })
 }
 
-fn small(n: u16) -> u8 {
-    if n < 256 { n as u8 } else { 255 }
-}
-
-// The bytes that a head announces, and 0 where they are none or too many.
-fn size_of(h: Head) -> usize
-    ensures { result ≤ 65536 }
-{
-    if MOST_SYSTEM < h.system {
-        return 0;
+// What stands beside a system that is too large to be read.
+fn unread(b: &[u8]) -> Outcome {
+    if 255 <= num::u16_at(b, 10) && num::u32_at(b, 12) == 0 {
+        Outcome::Unread
+    } else {
+        Outcome::Differs
     }
-    if MOST_VECTOR < h.vector {
-        return 0;
-    }
-    if MOST_VECTOR < h.tolerances {
-        return 0;
-    }
-    8 * (h.system + h.vector + h.tolerances)
 }
 
 // The system, the vector and the tolerances stand one after the other.
-fn judged(bytes: &[u8; 65536], h: Head) -> Judged {
-    let a = h.system;
-    let b = h.vector;
-    let c = h.tolerances;
-    if MOST_SYSTEM < a {
-        return Judged::Refused(255);
-    }
-    if MOST_VECTOR < b {
-        return Judged::Refused(255);
-    }
-    if MOST_VECTOR < c {
-        return Judged::Refused(255);
-    }
-    let system = floats_at(bytes, 0);
-    let vector = floats_at(bytes, 8 * a);
-    let tolerances = floats_at(bytes, 8 * (a + b));
-    judge::judge(&system[..a], &vector[..b], &tolerances[..c], h.rows)
+fn judged(bytes: &[u8], h: Head) -> Result<Judged, Refusal> {
+    let system: [f64; MOST_SYSTEM] = floats_at(bytes, 0);
+    let vector: [f64; MOST_VECTOR] = floats_at(bytes, 8 * h.system);
+    let tolerances: [f64; MOST_VECTOR] = floats_at(bytes, 8 * (h.system + h.vector));
+    judge::judge(
+        &system[..h.system],
+        &vector[..h.vector],
+        &tolerances[..h.tolerances],
+        h.rows,
+    )
 }
 
-// The floats from `at` on.
-fn floats_at(bytes: &[u8], at: usize) -> [f64; 2400]
-    requires { at ≤ 65536 }
-    ensures { length result ≡ 2400 }
+// So many floats from `at` on.
+fn floats_at<const N: usize>(bytes: &[u8], at: usize) -> [f64; N]
+    requires { (at ≤ 65536) × (N ≤ 2400) }
 {
-    let mut r = cells();
-    for i in 0..2400 {
-        r[i] = num::f64_at(bytes, at + 8 * i);
+    let mut r = [0.0; N];
+    for (i, x) in r.iter_mut().enumerate() {
+        *x = num::f64_at(bytes, at + 8 * i);
     }
     r
 }
 
-fn cells() -> [f64; 2400]
-    ensures { length result ≡ 2400 }
-{
-    [0.0; 2400]
-}
-
-fn compared(j: Judged, h: Head) -> Outcome {
+fn compared(j: Result<Judged, Refusal>, h: Head) -> Outcome {
     if same(j, h) {
         Outcome::Same(j)
     } else {
@@ -163,38 +151,26 @@ fn compared(j: Judged, h: Head) -> Outcome {
 }
 
 // Whether the answer is the stored one: the refusal, and the row, which is the row count where every row holds, and 0 where the call is refused.
-fn same(j: Judged, h: Head) -> bool {
+fn same(j: Result<Judged, Refusal>, h: Head) -> bool {
     match j {
-        Judged::Accepted => h.refusal == 0 && h.row == h.rows,
-        Judged::Rejected(i) => h.refusal == 0 && h.row == i,
-        Judged::Refused(k) => h.refusal == k && h.row == 0,
+        Ok(Judged::Accepted) => h.refusal == 0 && h.row == h.rows,
+        Ok(Judged::Rejected(i)) => h.refusal == 0 && h.row == i,
+        Err(k) => h.refusal == u16::from(k.number()) && h.row == 0,
     }
 }
 
-fn counted(t: Tally, o: Outcome) -> Tally {
-    let mut c = t;
-    match o {
-        Outcome::Same(j) => match j {
-            Judged::Accepted => c.accepted = next(t.accepted),
-            Judged::Rejected(_) => c.rejected = next(t.rejected),
-            Judged::Refused(k) => match k {
-                1 => c.rows = next(t.rows),
-                5 => c.short = next(t.short),
-                _ => c.numbers = next(t.numbers),
-            },
-        },
-        Outcome::Differs => c.differ = next(t.differ),
-        Outcome::End => {}
+impl Tally {
+    fn count(&mut self, o: Outcome) {
+        let n = match o {
+            Outcome::Same(Ok(Judged::Accepted)) => &mut self.accepted,
+            Outcome::Same(Ok(Judged::Rejected(_))) => &mut self.rejected,
+            Outcome::Same(Err(Refusal::Order)) => &mut self.rows,
+            Outcome::Same(Err(Refusal::Room)) => &mut self.short,
+            Outcome::Same(Err(_)) | Outcome::Unread => &mut self.numbers,
+            Outcome::Differs => &mut self.differ,
+        };
+        *n = n.wrapping_add(1);
     }
-    c
-}
-
-fn next(n: u64) -> u64 {
-    std::num::wrapping_add_u64(n, 1)
-}
-
-fn name<P: Print>(rt: &P, place: u64) {
-    let _ = println!(rt; "differs: {place}");
 }
 
 fn report<P: Print>(rt: &P, t: Tally) {

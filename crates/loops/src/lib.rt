@@ -1,8 +1,8 @@
-// Loops that every crate above stands on: copying, filling, a row put into a buffer, and 48 numbers to work in. Their meaning is in specs/Loop.antt, the laws of loops in specs/Laws/Loop.antt.
+// Loops that every crate above stands on: copying, clearing, a row put into a buffer, and 48 numbers to work in. Their meaning is in specs/Loop.antt, the laws of loops in specs/Laws/Loop.antt.
 // Every function here is total.
 #![tactic(auto)]
 
-ghost use Rattle.std.specs.Prelude.{◌≡◌, min, cond, length, replicate};
+ghost use Rattle.std.specs.Prelude.{◌≡◌, cond, length, replicate};
 ghost use Rattle.numbers.specs.Limits.{most_unknowns};
 ghost use Rattle.num.specs.Floats.{nought};
 ghost use Rattle.loops.specs.Loop.{copied, zeros_like, row_put};
@@ -10,31 +10,22 @@ ghost use Rattle.loops.specs.Loop.{copied, zeros_like, row_put};
 use numbers::limit::UNKNOWNS;
 
 // Copies `src` over the front of `dst`, as far as both go.
+// kept: a loop over floats, since `copy_from_slice` may call memmove, and the archive asks the C library for memcpy and memset alone.
 pub fn copy(src: &[f64], dst: &mut [f64])
     ensures { dst.new ≡ copied src.now dst.old }
 {
-    let n = least(src.len(), dst.len());
+    let n = src.len().min(dst.len());
     for i in 0..n {
         dst[i] = src[i];
     }
 }
 
-// Every number of `x` becomes `v`.
-pub fn fill(x: &mut [f64], v: f64)
-    ensures { x.new ≡ replicate (length x.old) v }
-{
-    for i in 0..x.len() {
-        x[i] = v;
-    }
-}
-
-// Every number of `x` becomes 0.0, or stays.
+// Every number of `x` becomes 0.0, or stays. One equation says both, where a branch would give each caller two cases.
 pub fn clear_if(x: &mut [f64], yes: bool)
     ensures { x.new ≡ cond yes (zeros_like x.old) x.old }
 {
     if yes {
-        fill(x, 0.0);
-        return;
+        x.fill(0.0);
     }
 }
 
@@ -59,11 +50,4 @@ pub fn put_row(rows: &mut [f64], place: usize, t: f64, v: &[f64])
     let e = a + v.len();
     rows[place] = t;
     copy(v, &mut rows[a..e]);
-}
-
-// The lesser of two numbers.
-fn least(a: usize, b: usize) -> usize
-    ensures { result ≡ min a b }
-{
-    if a < b { a } else { b }
 }

@@ -9,8 +9,9 @@ use Rattle.steps.specs.declared.Counters.{Counters}
 use Rattle.steps.specs.declared.Job.{Job}
 use Rattle.steps.specs.declared.Report.{Report}
 use Rattle.steps.specs.declared.Report.TheVariants.{Yes, No, Error, Diode, Sine}
-use Rattle.numbers.specs.Verdicts.{diode_current, no_room}
-use Rattle.steps.specs.Phases.{dc_phase, transient_phase}
+use Rattle.numbers.specs.Verdicts.{diode_current}
+use Rattle.numbers.specs.declared.verdict.Verdict.TheVariants.{NoRoom}
+use Rattle.steps.specs.Phases.{is_dc, is_transient}
 use Rattle.steps.specs.Counters.{ended, written}
 use Rattle.steps.specs.Control.{report_of, solved, waited, dc_after, step_after, row_due}
 use Rattle.machine.specs.State.{Buffers, buffers_of, State, state_of, Attempt, Tried, tried_of, Written, written_of}
@@ -54,8 +55,8 @@ accepts Sine = false
 -- whether the vector of a pass is taken: DC's when DC is over by a solved pass (0, 20 or 21), a step's when it is accepted
 unfoldable pub takes : Job → Counters → Report → Bool
 takes j c r =
-    cond (eqb c.phase dc_phase)
-    (solved r && not (eqb (dc_after j.options j.transient r c).phase dc_phase))
+    cond (is_dc c.phase)
+    (solved r && not (is_dc (dc_after j.options j.transient r c).phase))
     (accepts r)
 
 -- the attempt with its report, and where its vector is taken the inductors have taken their currents
@@ -75,7 +76,7 @@ written_by c v rows =
     let w = length v + 1 in
     cond (ltb c.rows (length rows / w))
     (written_of (written c) (row_at (c.rows * w) c.time v rows))
-    (written_of (ended no_room c) rows)
+    (written_of (ended NoRoom c) rows)
 
 -- a later time gets a row only if one is due
 unfoldable pub landed : Options → Counters → List Float → List Float → Written
@@ -92,11 +93,11 @@ unfoldable pub dc_pass : Attempt → Job → State → State
 dc_pass f j s =
     let t = tried_by f j s in
     let c = dc_after j.options j.transient t.report s.counters in
-    after s s.accepted t (cond (eqb c.phase transient_phase) (written_by c t.vector s.buffers.rows) (written_of c s.buffers.rows))
+    after s s.accepted t (cond (is_transient c.phase) (written_by c t.vector s.buffers.rows) (written_of c s.buffers.rows))
 
 -- the accepted vector a after a pass that leaves v: a step that is accepted puts v in its place, and DC accepts none
 unfoldable pub accepted_by : Report → Counters → List Float → List Float → List Float
-accepted_by r c a v = cond (eqb c.phase dc_phase) a (cond (accepts r) (copied v a) a)
+accepted_by r c a v = cond (is_dc c.phase) a (cond (accepts r) (copied v a) a)
 
 -- transient: where a step is accepted, its vector is kept, and the new time may get a row
 unfoldable pub step_pass : Attempt → Job → State → State
@@ -110,8 +111,8 @@ step_pass f j s =
 -- one unit of budget: a pass of DC or of the transient; an ended run stays as it is
 unfoldable pub pass : Attempt → Job → State → State
 pass f j s =
-    cond (eqb s.counters.phase dc_phase) (dc_pass f j s)
-    (cond (eqb s.counters.phase transient_phase) (step_pass f j s)
+    cond (is_dc s.counters.phase) (dc_pass f j s)
+    (cond (is_transient s.counters.phase) (step_pass f j s)
     s)
 
 -- ---- the run of a budget

@@ -1,13 +1,13 @@
 // The leading digits of a long number, as many as a float keeps and two more, the lowest of them set where anything is left below.
-ghost use Rattle.std.specs.Prelude.{◌≡◌, ◌/◌, ◌%◌, ◌^◌, ◌<◌, ◌≤◌, ◌&&◌, length, take, ◌==◌, slice_index};
+ghost use Rattle.std.specs.Prelude.{◌≡◌, ◌/◌, ◌%◌, ◌^◌, ◌<◌, ◌≤◌, length, take, ◌==◌};
 ghost use Rattle.numbers.specs.Limits.{sum_limbs};
 ghost use Rattle.exact.specs.Limbs.{value};
 ghost use Rattle.mean.specs.Leading.{Leads, Top, dropped_of, marked};
 
 use numbers::limit::SUM_LIMBS;
 
-// The place of a row's topmost limb.
-const LAST: usize = SUM_LIMBS - 1;
+// Limbs below this one do not decide how many digits are dropped.
+const LOW: usize = 18;
 
 // The unit of floats, 2^-1074, is 2^1074 units of a sum; two digits more are kept below it.
 const UNIT: u64 = 1072;
@@ -16,7 +16,7 @@ const UNIT: u64 = 1072;
 const FULL: u64 = 1127;
 
 // The digits word, of which the lowest stands at the place 1072 + places.
-#[derive(Drop)]
+#[derive(Clone, Copy, Debug, PartialEq, Eq)]
 pub struct Digits {
     pub places: u64,
     pub word: u64,
@@ -29,9 +29,9 @@ pub fn leading(l: &[u64], even: bool) -> Digits
 {
     let places = dropped(l);
     let at = (UNIT + places) as usize;
-    let clear = both(even, clear_below(l, at));
+    let clear = even && clear_below(l, at);
     Digits {
-        places: places,
+        places,
         word: mark(clear, window(l, at)),
     }
 }
@@ -51,14 +51,12 @@ fn top(l: &[u64]) -> usize
     requires { length l.now ≡ sum_limbs }
     ensures { Top l.now result }
 {
-    let mut h = LAST;
-    while 17 < h {
+    for h in (LOW..SUM_LIMBS).rev() {
         if l[h] != 0 {
             return h;
         }
-        h -= 1;
     }
-    h
+    LOW - 1
 }
 
 // The digits from the place p on, where they are a word.
@@ -68,8 +66,8 @@ fn window(l: &[u64], p: usize) -> u64
 {
     let i = p / 64;
     let s = (p % 64) as u64;
-    let low = limb(l, i) >> s;
-    let high = limb(l, i + 1) << (63 - s);
+    let low = exact::limb(l, i) >> s;
+    let high = exact::limb(l, i + 1) << (63 - s);
     low + high * 2
 }
 
@@ -80,7 +78,7 @@ fn clear_below(l: &[u64], p: usize) -> bool
 {
     let i = p / 64;
     let s = (p % 64) as u64;
-    both(blank(l, i), limb(l, i) % (1 << s) == 0)
+    blank(l, i) && exact::limb(l, i) % (1 << s) == 0
 }
 
 // Whether the n lowest limbs are 0.
@@ -88,11 +86,7 @@ fn blank(l: &[u64], n: usize) -> bool
     requires { n ≤ length l.now }
     ensures { result ≡ (value (take n l.now) == 0) }
 {
-    let mut clear = true;
-    for i in 0..n {
-        clear = both(clear, l[i] == 0);
-    }
-    clear
+    l[..n].iter().all(|x| *x == 0)
 }
 
 // w, with its lowest digit set unless all below it is clear.
@@ -100,20 +94,4 @@ fn mark(clear: bool, w: u64) -> u64
     ensures { result ≡ marked clear w }
 {
     if clear { w } else { w / 2 * 2 + 1 }
-}
-
-fn both(a: bool, b: bool) -> bool
-    ensures { result ≡ (a && b) }
-{
-    if a { b } else { false }
-}
-
-// The limb at i; past the end there is 0.
-fn limb(l: &[u64], i: usize) -> u64
-    ensures { result ≡ slice_index l.now i }
-{
-    if l.len() <= i {
-        return 0;
-    }
-    l[i]
 }

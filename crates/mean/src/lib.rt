@@ -16,7 +16,7 @@ ghost use Rattle.mean.specs.Mean.{mean_of};
 use numbers::limit::SUM_LIMBS;
 
 // Counts from 2^32 on are not divided by.
-const COUNTS: u64 = 4294967296;
+const COUNTS: u64 = 1 << 32;
 
 // The float nearest to plus less minus, in units of 2^-2148, over the count: of two as near the even one, an infinity where it is too large.
 // 0.0 where the sum is 0, where a row is not 66 limbs, and for a count that is 0 or not below 2^32.
@@ -24,16 +24,7 @@ const COUNTS: u64 = 4294967296;
 pub fn mean(plus: &[u64], minus: &[u64], count: u64) -> f64
     ensures { result ≡ mean_of plus.now minus.now count }
 {
-    if plus.len() != SUM_LIMBS {
-        return 0.0;
-    }
-    if minus.len() != SUM_LIMBS {
-        return 0.0;
-    }
-    if count == 0 {
-        return 0.0;
-    }
-    if COUNTS <= count {
+    if plus.len() != SUM_LIMBS || minus.len() != SUM_LIMBS || count == 0 || COUNTS <= count {
         return 0.0;
     }
     if exact::at_most(minus, plus) {

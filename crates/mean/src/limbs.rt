@@ -1,5 +1,5 @@
 // A row of limbs of 64 bits, the lowest first: less another row, and over a small number.
-ghost use Rattle.std.specs.Prelude.{◌≡◌, ◌+◌, ◌-◌, ◌*◌, ◌^◌, ◌<◌, ◌≤◌, length, if◌then◌else◌, nat_lt};
+ghost use Rattle.std.specs.Prelude.{◌≡◌, ◌+◌, ◌-◌, ◌*◌, ◌^◌, ◌<◌, ◌≤◌, length};
 ghost use Rattle.numbers.specs.Limits.{sum_limbs};
 ghost use Rattle.exact.specs.Limbs.{value};
 ghost use Rattle.mean.specs.Rows.{Row, Divided};
@@ -7,21 +7,7 @@ ghost use Rattle.mean.specs.Rows.{Row, Divided};
 use numbers::limit::SUM_LIMBS;
 
 // 2^32: halves of a limb.
-const HALF: u64 = 4294967296;
-
-// A limb less another, and what is to be taken off the limb above.
-#[derive(Drop)]
-struct Rest {
-    word: u64,
-    borrow: u64,
-}
-
-// A limb over a number, and what is left.
-#[derive(Drop)]
-struct Quotient {
-    whole: u64,
-    left: u64,
-}
+const HALF: u64 = 1 << 32;
 
 // a less b.
 pub fn difference(a: &[u64], b: &[u64]) -> [u64; SUM_LIMBS]
@@ -29,11 +15,11 @@ pub fn difference(a: &[u64], b: &[u64]) -> [u64; SUM_LIMBS]
     ensures { Row result (value a.now - value b.now) }
 {
     let mut r = exact::empty();
-    let mut borrow: u64 = 0;
+    let mut borrow = false;
     for i in 0..SUM_LIMBS {
-        let t = less(a[i], b[i], borrow);
-        r[i] = t.word;
-        borrow = t.borrow;
+        let (word, left) = a[i].borrowing_sub(b[i], borrow);
+        r[i] = word;
+        borrow = left;
     }
     r
 }
@@ -43,44 +29,21 @@ pub fn over(l: &mut [u64], d: u64) -> u64
     requires { (0 < d) × (d < 2 ^ 32) }
     ensures { Divided l.old d result l.new }
 {
-    let mut left: u64 = 0;
-    let mut i = l.len();
-    while 0 < i {
-        i -= 1;
-        let t = part(left, l[i], d);
-        l[i] = t.whole;
-        left = t.left;
+    let mut left = 0;
+    for i in (0..l.len()).rev() {
+        let (whole, rest) = part(left, l[i], d);
+        l[i] = whole;
+        left = rest;
     }
     left
 }
 
-// A difference that wraps is made good by the limb above.
-fn less(a: u64, b: u64, borrow: u64) -> Rest
-    requires { borrow ≤ 1 }
-    ensures { (result.word + b + borrow ≡ a + result.borrow * 2 ^ 64) × (result.borrow ≤ 1) }
-{
-    let first = std::num::wrapping_sub_u64(a, b);
-    Rest {
-        word: std::num::wrapping_sub_u64(first, borrow),
-        borrow: wraps(a, b) + wraps(first, borrow),
-    }
-}
-
-fn wraps(a: u64, b: u64) -> u64
-    ensures { result ≡ (if nat_lt a b then 1 else 0) }
-{
-    if a < b { 1 } else { 0 }
-}
-
-// left 2^64 + x over d, by halves of 32 bits, so that nothing wraps.
-fn part(left: u64, x: u64, d: u64) -> Quotient
+// left 2^64 + x over d, and what is left. kept: by halves of 32 bits, so that each step divides one word.
+fn part(left: u64, x: u64, d: u64) -> (u64, u64)
     requires { (left < d) × (d < 2 ^ 32) }
-    ensures { (result.whole * d + result.left ≡ left * 2 ^ 64 + x) × (result.left < d) }
+    ensures { (result.0 * d + result.1 ≡ left * 2 ^ 64 + x) × (result.1 < d) }
 {
     let high = left * HALF + x / HALF;
     let low = high % d * HALF + x % HALF;
-    Quotient {
-        whole: high / d * HALF + low / d,
-        left: low % d,
-    }
+    (high / d * HALF + low / d, low % d)
 }

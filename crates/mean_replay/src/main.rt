@@ -114,7 +114,7 @@ fn add_all(bytes: &[u8], terms: usize, plus: &mut [u64], minus: &mut [u64]) {
     for i in 0..terms {
         let x = num::f64_at(bytes, 16 * i);
         let y = num::f64_at(bytes, 16 * i + 8);
-        exact::keep_product(plus, minus, x, y);
+        let _ = exact::keep_product(plus, minus, x, y);
     }
 }
 

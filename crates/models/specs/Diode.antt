@@ -1,5 +1,5 @@
 -- The diode: "Limiting follows `linearize`". Clients cite linearized, Numbers and numbers_of.
-use Rattle.std.specs.Prelude.{ℕ, cond, Float}
+use Rattle.std.specs.Prelude.{ℕ, cond, Option, Some, None, Float}
 use Rattle.std.specs.Float.{binary64}
 use Rattle.std.specs.Float.Ieee.{of_bits, lt, le}
 use Rattle.std.specs.Float.Ieee.Scale.{finite}
@@ -10,8 +10,8 @@ use Rattle.functions.specs.Exp.{exp_of}
 use Rattle.functions.specs.Ln.{ln_of}
 use Rattle.models.specs.Signs.{◌⊕◌, ◌⊖◌, ◌⊗◌, ◌⊘◌}
 use Rattle.num.specs.Literals.{one, two}
-use Rattle.models.specs.declared.diode.Linear.{Linear}
-use Rattle.models.specs.declared.diode.Linear.TheVariants.{Model, NotFinite}
+use Rattle.models.specs.declared.diode.Diode.{Diode}
+use Rattle.models.specs.declared.diode.Model.{Model}
 
 -- "root two is 0x3FF6A09E667F3BCD"
 abbrev pub root_two : Float
@@ -24,6 +24,10 @@ shift = of_bits binary64 0x4076_b000_0000_0000
 -- "Thermal voltage: BOLTZMANN (363.0 + tdegc) / CHARGE"
 unfoldable pub thermal : Options → Float → Float
 thermal o tdegc = o.boltzmann ⊗ (shift ⊕ tdegc) ⊘ o.charge
+
+-- a diode at a temperature, last limited to `last`
+abbrev pub diode_of : Options → Float → Float → Float → Diode
+diode_of o isat tdegc last = record { gmin = o.gmin; i_sat = isat; v_thermal = thermal o tdegc; v_d_prev = last }
 
 -- the critical voltage, below which no step is limited
 unfoldable pub critical : Float → Float → Float
@@ -46,16 +50,20 @@ limited vt vcrit v last =
 unfoldable pub floored : Float → Float → Float
 floored gmin g = cond (lt g gmin) gmin g
 
+-- a conductance and a current beside it, and the voltage to remember
+abbrev pub model_of : Float → Float → Float → Model
+model_of g i v = record { g = g; i = i; memory = v }
+
 -- the model at the limited voltage v; "diode current not finite" where there is none, whatever its conductance or the current beside that is
-unfoldable pub model_at : Float → Float → Float → Float → Linear
+unfoldable pub model_at : Float → Float → Float → Float → Option Model
 model_at gmin isat vt v =
     let e = exp_of (v ⊘ vt) in
     let id = isat ⊗ (e ⊖ one) in
     let g = floored gmin (isat ⊘ vt ⊗ e) in
-    cond (finite id) (Model g (id ⊖ g ⊗ v) v) NotFinite
+    cond (finite id) (Some (model_of g (id ⊖ g ⊗ v) v)) None
 
 -- the model of a diode at the voltage v, last limited to `last`
-unfoldable pub linearized : Options → Float → Float → Float → Float → Linear
+unfoldable pub linearized : Options → Float → Float → Float → Float → Option Model
 linearized o isat tdegc v last =
     let vt = thermal o tdegc in
     model_at o.gmin isat vt (limited vt (critical vt isat) v last)
@@ -68,6 +76,6 @@ pub record Numbers : Type 0 where
   pub memory : Float
 
 -- "22 diode current not finite (the Rust panics)": there is no model then, and the diode keeps its last voltage, since the Rust panics before it stores
-abbrev pub numbers_of : Float → Linear → Numbers
-numbers_of last (Model g i v) = record { verdict = settled; g = g; i = i; memory = v }
-numbers_of last NotFinite = record { verdict = diode_current; g = nought; i = nought; memory = last }
+abbrev pub numbers_of : Float → Option Model → Numbers
+numbers_of last (Some m) = record { verdict = settled; g = m.g; i = m.i; memory = m.memory }
+numbers_of last None = record { verdict = diode_current; g = nought; i = nought; memory = last }

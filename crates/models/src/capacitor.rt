@@ -3,7 +3,7 @@ ghost use Rattle.std.specs.Prelude.{◌≡◌};
 ghost use Rattle.models.specs.Capacitor.{companion_of};
 
 // The conductance and the current that stand for a capacitor through one step.
-#[derive(Drop)]
+#[derive(Clone, Copy, Debug)]
 pub struct Companion {
     pub g: f64,
     pub i: f64,
@@ -14,8 +14,5 @@ pub fn linearize(value: f64, v_prev: f64, t_delta: f64) -> Companion
     ensures { result ≡ companion_of value v_prev t_delta }
 {
     let g = value / t_delta;
-    Companion {
-        g: g,
-        i: g * v_prev,
-    }
+    Companion { g, i: g * v_prev }
 }

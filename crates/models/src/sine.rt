@@ -2,24 +2,12 @@
 ghost use Rattle.std.specs.Prelude.{◌≡◌};
 ghost use Rattle.models.specs.Sine.{sine_at};
 
-use functions::Sine;
-
 const PI: f64 = 3.141592653589793;
 
-// A source's level, or that the sine refused its argument.
-#[derive(Drop)]
-pub enum Level {
-    Value(f64),
-    Refused,
-}
-
-// The level at time t of the offset vo, the amplitude va and the frequency freq.
-pub fn evaluate(vo: f64, va: f64, freq: f64, t: f64) -> Level
+// The level at time t of the offset vo, the amplitude va and the frequency freq; none where the sine refuses its argument.
+pub fn evaluate(vo: f64, va: f64, freq: f64, t: f64) -> Option<f64>
     ensures { result ≡ sine_at vo va freq t }
 {
-    let s = functions::sin(2.0 * PI * freq * t);
-    match s {
-        Sine::Value(y) => Level::Value(vo + va * y),
-        Sine::Refused => Level::Refused,
-    }
+    let y = functions::sin(2.0 * PI * freq * t)?;
+    Some(vo + va * y)
 }

@@ -6,14 +6,14 @@ ghost use Rattle.num.specs.Floats.{nought};
 use num::f64_at;
 
 // A point of a pattern.
-#[derive(Drop)]
+#[derive(Clone, Copy, Debug)]
 pub struct Point {
     pub time: f64,
     pub level: f64,
 }
 
 // The two points that a cycle time lies between.
-#[derive(Drop)]
+#[derive(Clone, Copy, Debug)]
 struct Segment {
     t1: f64,
     v1: f64,
@@ -77,16 +77,16 @@ fn between(points: &[u8], first: usize, count: usize, t_cycle: f64) -> Segment
             v1 = tv.level;
         } else {
             return Segment {
-                t1: t1,
-                v1: v1,
+                t1,
+                v1,
                 t2: tv.time,
                 v2: tv.level,
             };
         }
     }
     Segment {
-        t1: t1,
-        v1: v1,
+        t1,
+        v1,
         t2: 0.0,
         v2: 0.0,
     }

@@ -1,8 +1,7 @@
 // One stored answer of each model: its length, and whether the model answers it.
 ghost use Rattle.std.specs.Prelude.{◌≤◌};
 
-use models::diode::{Linear, Situation};
-use models::sine::Level;
+use models::diode::{Diode, Situation};
 use num::{f64_at, u64_at};
 use numbers::verdict::{DIODE_CURRENT, SINE_REFUSED};
 use options::Options;
@@ -101,13 +100,13 @@ fn diode_right(e: &[u8]) -> bool {
         f64_at(e, 48),
     );
     match l {
-        Linear::Model { g, i, memory } => {
+        Some(m) => {
             if verdict == 0 {
-                return all_same(e, g, i, memory);
+                return all_same(e, m.g, m.i, m.memory);
             }
             false
         }
-        Linear::NotFinite => {
+        None => {
             if verdict == DIODE_CURRENT as u64 {
                 return all_same(e, 0.0, 0.0, f64_at(e, 48));
             }
@@ -119,8 +118,8 @@ fn diode_right(e: &[u8]) -> bool {
 // A diode's entry, and behind it the situation of its limiting.
 fn situation_right(e: &[u8]) -> bool {
     let o = options_of(f64_at(e, 0), f64_at(e, 8), f64_at(e, 16));
-    let v_thermal = models::diode::thermal_voltage(o, f64_at(e, 32));
-    let s = models::diode::situation_of(v_thermal, f64_at(e, 24), f64_at(e, 40), f64_at(e, 48));
+    let d = Diode::new(o, f64_at(e, 24), f64_at(e, 32), f64_at(e, 48));
+    let s = d.situation_of(f64_at(e, 40));
     if number_of(s) == u64_at(e, 88) {
         return diode_right(e);
     }
@@ -153,13 +152,13 @@ fn sine_right(e: &[u8]) -> bool {
     let verdict = u64_at(e, 32);
     let l = models::sine::evaluate(f64_at(e, 0), f64_at(e, 8), f64_at(e, 16), f64_at(e, 24));
     match l {
-        Level::Value(x) => {
+        Some(x) => {
             if verdict == 0 {
                 return same(x, f64_at(e, 40));
             }
             false
         }
-        Level::Refused => {
+        None => {
             if verdict == SINE_REFUSED as u64 {
                 return same(0.0, f64_at(e, 40));
             }

@@ -1,4 +1,57 @@
-// The refusals of a call. 0 is none.
+// The refusals of a call: why it does not run. Each has its number in the documents; a call that is not refused has 0 for a number.
+ghost use Rattle.std.specs.Prelude.{◌≡◌};
+
+use std::error::Error;
+use std::fmt;
+
+#[derive(Clone, Copy, Debug, PartialEq, Eq, Hash)]
+pub enum Refusal {
+    // no node, or N above the limit
+    Order = 1,
+    // the sheet's length
+    Sheet = 2,
+    // the points' length
+    Points = 3,
+    // iteration limits or the budget
+    Counts = 4,
+    // a lent buffer is too short
+    Room = 5,
+    // a record's kind
+    Kind = 6,
+    // a byte of a record that must be zero
+    Unused = 7,
+    // a record's node
+    Node = 8,
+    // a record's source number
+    Source = 9,
+    // a record's points
+    Pattern = 10,
+    // the judge: a number that is not finite, or a tolerance below zero
+    Tolerance = 11,
+    // the sine: its argument
+    Argument = 12,
+    // the spreads: the number of jobs, or the chosen unknown
+    Jobs = 13,
+}
+
+impl Refusal {
+    ghost use Rattle.numbers.specs.Refusals.{number_of};
+
+    // The refusal's number.
+    pub fn number(self) -> u8
+        ensures { result ≡ number_of self }
+    {
+        self as u8
+    }
+}
+
+impl fmt::Display for Refusal {
+    fn fmt<W: fmt::Write>(&self, f: &mut fmt::Formatter<W>) -> fmt::Result {
+        write!(f, "refused by {}", *self as u8)
+    }
+}
+
+impl Error for Refusal {}
 
 // No node, or N above the limit.
 pub const ORDER: u8 = 1;

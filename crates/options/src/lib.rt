@@ -2,7 +2,7 @@
 #![tactic(auto)]
 
 #[repr(C)]
-#[derive(Clone, Copy)]
+#[derive(Clone, Copy, Debug, PartialEq)]
 pub struct Options {
     pub reltol: f64,
     pub vntol: f64,

@@ -4,8 +4,7 @@ use mathlib.Core.Path.{◌≡◌, refl, sym, ap, ◌∙◌}
 use mathlib.Core.Logic.{◌⊎◌, inl, inr, ⊎_elim}
 use mathlib.Core.Bool.{Bool, true, false, cond, ◌&&◌, false≢true}
 use mathlib.Core.List.{List}
-use borrow.Author.Tests.{eq-eqb, ne_eqb, eqb-true, eqb-false}
-use lib.Dec.{eqb, ltb, leb}
+use lib.Dec.{ltb, leb}
 use lib.ListN.{length}
 use lib.Ieee as Ieee
 use lib.Ieee.{Float, binary64}
@@ -15,8 +14,11 @@ use Rattle.steps.specs.declared.Counters.{Counters}
 use Rattle.steps.specs.declared.Job.{Job}
 use Rattle.steps.specs.declared.Report.{Report}
 use Rattle.steps.specs.declared.Report.TheVariants.{Yes, No, Error, Diode, Sine}
-use Rattle.numbers.specs.Verdicts.{settled, passes_used, diverged, no_room}
-use Rattle.steps.specs.Phases.{dc_phase, transient_phase}
+use Rattle.numbers.specs.declared.verdict.Verdict.{Verdict}
+use Rattle.numbers.specs.declared.verdict.Verdict.TheVariants.{Settled, PassesUsed, Diverged, StepTooSmall, NoRoom}
+use Rattle.steps.specs.declared.Phase.TheVariants.{Dc}
+use Rattle.steps.specs.Phases.{is_dc, is_transient}
+use Rattle.steps.specs.Laws.Phases.{dc_phase, not_dc}
 use Rattle.steps.specs.Counters.{counted, ended, again, with_step, written, going}
 use Rattle.steps.specs.Control.{dc_over, dc_after, moved, shortened, step_after, row_due}
 use Rattle.steps.specs.Control.{solved}
@@ -47,20 +49,20 @@ later c h = go c.first refl
 
 -- ---- DC
 
-over_new : (o : Options) (tr : Bool) (v : ℕ) (c : Counters) → going (dc_over o tr v c) ≡ true → (dc_over o tr v c).first ≡ false → ⊥
+over_new : (o : Options) (tr : Bool) (v : Verdict) (c : Counters) → going (dc_over o tr v c) ≡ true → (dc_over o tr v c).first ≡ false → ⊥
 unfolding dc_over
 over_new o true v c g f = false≢true (sym f)
 over_new o false v c g f = false≢true g
 
 pub dc_alike : (o : Options) (tr : Bool) (r : Report) (c : Counters) → going (dc_after o tr r c) ≡ true → (dc_after o tr r c).first ≡ false → (solved r ≡ true) × Same (dc_after o tr r c) c
 unfolding dc_after
-dc_alike o tr Yes c g f = absurd (over_new o tr settled (counted c) g f)
+dc_alike o tr Yes c g f = absurd (over_new o tr Settled (counted c) g f)
 dc_alike o tr No c g f = go (ltb o.itl1 (counted c).count) g f
   where
-    go : (b : Bool) → going (cond b (dc_over o tr passes_used (counted c)) (counted c)) ≡ true → (cond b (dc_over o tr passes_used (counted c)) (counted c)).first ≡ false → (solved No ≡ true) × Same (cond b (dc_over o tr passes_used (counted c)) (counted c)) c
-    go true g f = absurd (over_new o tr passes_used (counted c) g f)
+    go : (b : Bool) → going (cond b (dc_over o tr PassesUsed (counted c)) (counted c)) ≡ true → (cond b (dc_over o tr PassesUsed (counted c)) (counted c)).first ≡ false → (solved No ≡ true) × Same (cond b (dc_over o tr PassesUsed (counted c)) (counted c)) c
+    go true g f = absurd (over_new o tr PassesUsed (counted c) g f)
     go false g f = (refl, record { phase = refl; time = refl; step = refl })
-dc_alike o tr Error c g f = absurd (over_new o tr diverged (counted c) g f)
+dc_alike o tr Error c g f = absurd (over_new o tr Diverged (counted c) g f)
 dc_alike o tr Diode c g f = absurd (false≢true g)
 dc_alike o tr Sine c g f = absurd (false≢true g)
 
@@ -71,7 +73,7 @@ cut_new : (o : Options) (c : Counters) → c.first ≡ false → going (shortene
 unfolding shortened alike
 cut_new o c f g h = go (Ieee.lt (Ieee.mul binary64 c.step o.ft) (Ieee.mul binary64 o.tstep o.rmin)) g h
   where
-    go : (b : Bool) → going (cond b (ended 23 (moved o (with_step (Ieee.mul binary64 c.step o.ft) c))) (again (with_step (Ieee.mul binary64 c.step o.ft) c))) ≡ true → alike (cond b (ended 23 (moved o (with_step (Ieee.mul binary64 c.step o.ft) c))) (again (with_step (Ieee.mul binary64 c.step o.ft) c))) ≡ true → ⊥
+    go : (b : Bool) → going (cond b (ended StepTooSmall (moved o (with_step (Ieee.mul binary64 c.step o.ft) c))) (again (with_step (Ieee.mul binary64 c.step o.ft) c))) ≡ true → alike (cond b (ended StepTooSmall (moved o (with_step (Ieee.mul binary64 c.step o.ft) c))) (again (with_step (Ieee.mul binary64 c.step o.ft) c))) ≡ true → ⊥
     go true g h = false≢true g
     go false g h = false≢true (rw f at h)
 
@@ -93,7 +95,7 @@ pub write_going : (d w : Counters) (v rows z : List Float) → written_of w z �
 unfolding written_by
 write_going d w v rows z e g = go (ltb d.rows _) _ e
   where
-    go : (b : Bool) (x : List Float) → written_of w z ≡ cond b (written_of (written d) x) (written_of (ended no_room d) rows) → w ≡ written d
+    go : (b : Bool) (x : List Float) → written_of w z ≡ cond b (written_of (written d) x) (written_of (ended NoRoom d) rows) → w ≡ written d
     go true x q = ap (λ (t : Written). t.counters) q
     go false x q = absurd (false≢true (ap (λ (t : Written). going t.counters) (sym q) ∙ g))
 
@@ -120,17 +122,17 @@ accepted_new o r c d w x rows z e y q g l = ⊎_elim (new (written d) refl refl)
     new v a b p = false≢true (sym (step_alike o r c (ap going (sym e) ∙ (a ∙ (ap going (sym p) ∙ g))) (ap alike (sym e) ∙ (b ∙ (ap alike (sym p) ∙ l)))).0 ∙ y)
 
 -- where the next pass is stamped as the last, no vector was taken
-dc_not_taken : (j : Job) (r : Report) (c : Counters) → c.phase ≡ dc_phase → Same (dc_after j.options j.transient r c) c → takes j c r ≡ false
+dc_not_taken : (j : Job) (r : Report) (c : Counters) → c.phase ≡ Dc → Same (dc_after j.options j.transient r c) c → takes j c r ≡ false
 unfolding takes
-dc_not_taken j r c h y = rw (eq-eqb _ _ h, eq-eqb _ _ (y.phase ∙ h)) (off (solved r))
+dc_not_taken j r c h y = rw (ap is_dc h, ap is_dc (y.phase ∙ h)) (off (solved r))
   where
     off : (b : Bool) → (b && false) ≡ false
     off true = refl
     off false = refl
 
-step_not_taken : (j : Job) (r : Report) (c : Counters) → (c.phase ≡ dc_phase → ⊥) → accepts r ≡ false → takes j c r ≡ false
+step_not_taken : (j : Job) (r : Report) (c : Counters) → (c.phase ≡ Dc → ⊥) → accepts r ≡ false → takes j c r ≡ false
 unfolding takes
-step_not_taken j r c h y = rw (ne_eqb _ _ h, y)
+step_not_taken j r c h y = rw (not_dc _ h, y)
 
 -- of a pass that the counters c began: y is the memory that its attempt left, u the memory after it
 module _ (k : Circuit) (j : Job) (r : Report) (c w : Counters) (a b held s v x rows z y u : List Float) (h : solved r ≡ true → Holds k c a b held s v y) (m : u ≡ memory_after j r c k.sheet x y) where
@@ -141,9 +143,9 @@ module _ (k : Circuit) (j : Job) (r : Report) (c w : Counters) (a b held s v x r
       let n : u ≡ y = m ∙ ap (λ (b : Bool). cond b (taken_of (pass_of j (length x) c) k.sheet x y) y) t in
       rw n (moves k d c a b held s v y e (h q))
 
-  pub next_dc : c.phase ≡ dc_phase → written_of w z ≡ dc_done j r c x rows → going w ≡ true → alike w ≡ true → Holds k w a b held s v u
+  pub next_dc : c.phase ≡ Dc → written_of w z ≡ dc_done j r c x rows → going w ≡ true → alike w ≡ true → Holds k w a b held s v u
   unfolding dc_done alike
-  next_dc dc e g l = go (eqb (dc_after j.options j.transient r c).phase transient_phase) e
+  next_dc dc e g l = go (is_transient (dc_after j.options j.transient r c).phase) e
     where
       d : Counters
       d = dc_after j.options j.transient r c
@@ -161,7 +163,7 @@ module _ (k : Circuit) (j : Job) (r : Report) (c w : Counters) (a b held s v x r
           let p : w ≡ d = ap (λ (t : Written). t.counters) q in
           rw p (same (ap going (sym p) ∙ g) (ap alike (sym p) ∙ l))
 
-  pub next_step : (c.phase ≡ dc_phase → ⊥) → (n : List Float) → written_of w z ≡ step_done j r c x rows → n ≡ cond (accepts r) x a → going w ≡ true → alike w ≡ true → Holds k w n b held s v u
+  pub next_step : (c.phase ≡ Dc → ⊥) → (n : List Float) → written_of w z ≡ step_done j r c x rows → n ≡ cond (accepts r) x a → going w ≡ true → alike w ≡ true → Holds k w n b held s v u
   unfolding step_done
   next_step dc n e t g l = go (accepts r) refl e t
     where
@@ -177,12 +179,12 @@ module _ (k : Circuit) (j : Job) (r : Report) (c w : Counters) (a b held s v x r
 
   pub next_pass : (n : List Float) → aftermath_of w n z ≡ aftermath j r c a x rows → going w ≡ true → alike w ≡ true → Holds k w n b held s v u
   unfolding aftermath
-  next_pass n e g l = go (eqb c.phase dc_phase) refl e
+  next_pass n e g l = go (is_dc c.phase) refl e
     where
-      go : (q : Bool) → eqb c.phase dc_phase ≡ q
+      go : (q : Bool) → is_dc c.phase ≡ q
           → aftermath_of w n z ≡ cond q (aftermath_of (dc_done j r c x rows).counters a (dc_done j r c x rows).rows) (aftermath_of (step_done j r c x rows).counters (cond (accepts r) x a) (step_done j r c x rows).rows)
           → Holds k w n b held s v u
       go true p q =
           let en : n ≡ a = ap (λ (y : Aftermath). y.accepted) q in
-          rw en (next_dc (eqb-true _ _ p) (ap (λ (y : Aftermath). written_of y.counters y.rows) q) g l)
-      go false p q = next_step (eqb-false _ _ p) n (ap (λ (y : Aftermath). written_of y.counters y.rows) q) (ap (λ (y : Aftermath). y.accepted) q) g l
+          rw en (next_dc (dc_phase _ p) (ap (λ (y : Aftermath). written_of y.counters y.rows) q) g l)
+      go false p q = next_step (λ h. false≢true (sym p ∙ ap is_dc h)) n (ap (λ (y : Aftermath). written_of y.counters y.rows) q) (ap (λ (y : Aftermath). y.accepted) q) g l

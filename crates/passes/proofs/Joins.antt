@@ -1,7 +1,7 @@
 -- A pass from its parts, over plain variables: what each call ensures is one hypothesis, and the definitions of stamping and solving stay shut. Assumes nothing.
 use Prim.Native.Nat.{ℕ}
 use mathlib.Core.Path.{◌≡◌, refl, sym, ap, ◌∙◌, subst}
-use mathlib.Core.Bool.{Bool, true, false, cond}
+use mathlib.Core.Bool.{Bool, true, false, cond, false≢true}
 use mathlib.Core.List.{List, []}
 use lib.ListN.{length, get_or}
 use lib.Ieee.{Float, nan}
@@ -15,7 +15,9 @@ use Rattle.convergence.specs.Convergence.{convergence_of}
 use Rattle.steps.specs.declared.Counters.{Counters}
 use Rattle.steps.specs.declared.Job.{Job}
 use Rattle.steps.specs.declared.Report.{Report}
-use Rattle.steps.specs.Phases.{dc_phase, transient_phase, ended_phase}
+use Rattle.steps.specs.declared.Phase.TheVariants.{Dc}
+use Rattle.steps.specs.Phases.{is_dc, is_transient}
+use Rattle.steps.specs.Laws.Phases.{dc_phase, stepping}
 use Rattle.steps.specs.Counters.{going}
 use Rattle.steps.specs.Control.{report_of, waited, step_after}
 use Rattle.behind.specs.Behind.{behind_number}
@@ -171,22 +173,18 @@ module _ (k : Circuit) (j : Job) (c w : Counters) (acc base sys vec mem rows : L
       go true q = ap (λ (x : Written). state_of x.counters v (buffers_of base s v y x.rows)) q
       go false q = ap (λ (x : Written). state_of x.counters acc (buffers_of base s v y x.rows)) q
 
-  -- a live run that is not in DC is in the transient
-  stepping : (p : ℕ) → ltb p ended_phase ≡ true → (p ≡ dc_phase → ⊥) → p ≡ transient_phase
-  stepping p g n = omega (arith, ltb-true p ended_phase g, n)
-
   pub pass_joins : (a : List Float) → going c ≡ true → aftermath_of w a z ≡ aftermath j r c acc v rows
       → state_of w a (buffers_of base s v y z) ≡ pass (attempt_of k) j (state_of c acc (buffers_of base sys vec mem rows))
   unfolding aftermath
-  pass_joins a live q = go (eqb c.phase dc_phase) refl q
+  pass_joins a live q = go (is_dc c.phase) refl q
     where
-      go : (b : Bool) → eqb c.phase dc_phase ≡ b
+      go : (b : Bool) → is_dc c.phase ≡ b
           → aftermath_of w a z ≡ cond b (aftermath_of (dc_done j r c v rows).counters acc (dc_done j r c v rows).rows) (aftermath_of (step_done j r c v rows).counters (cond (accepts r) v acc) (step_done j r c v rows).rows)
           → state_of w a (buffers_of base s v y z) ≡ pass (attempt_of k) j (state_of c acc (buffers_of base sys vec mem rows))
       go true h q =
           let ea : a ≡ acc = ap (λ (x : Aftermath). x.accepted) q in
-          rw ea (dc_joins (ap (λ (x : Aftermath). written_of x.counters x.rows) q) ∙ sym (pass_dc (attempt_of k) j (state_of c acc (buffers_of base sys vec mem rows)) (eqb-true _ _ h)))
+          rw ea (dc_joins (ap (λ (x : Aftermath). written_of x.counters x.rows) q) ∙ sym (pass_dc (attempt_of k) j (state_of c acc (buffers_of base sys vec mem rows)) (dc_phase _ h)))
       go false h q =
-          let n = eqb-false c.phase dc_phase h in
+          let n : c.phase ≡ Dc → ⊥ = λ e. false≢true (sym h ∙ ap is_dc e) in
           step_joins a (ap (λ (x : Aftermath). written_of x.counters x.rows) q) (ap (λ (x : Aftermath). x.accepted) q)
           ∙ sym (pass_step (attempt_of k) j (state_of c acc (buffers_of base sys vec mem rows)) n (stepping c.phase live n))

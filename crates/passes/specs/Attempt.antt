@@ -8,7 +8,7 @@ use Rattle.groups.specs.Stamping.{stamp_of}
 use Rattle.solve.specs.Solve.{solution}
 use Rattle.steps.specs.declared.Counters.{Counters}
 use Rattle.steps.specs.declared.Job.{Job}
-use Rattle.steps.specs.Phases.{dc_phase}
+use Rattle.steps.specs.Phases.{is_dc}
 use Rattle.machine.specs.State.{Solved, Attempted, Attempt}
 use Rattle.behind.specs.Behind.{behind_number}
 
@@ -26,7 +26,7 @@ circuit_of j n sheet points = record { job = j; order = n; sheet = sheet; points
 -- the pass that is stamped: DC, or a transient's step from its time; either by the option on patterns
 abbrev pub pass_of : Job → ℕ → Counters → Pass
 pass_of j n c =
-    record { nodes = j.nodes; order = n; transient = not (eqb c.phase dc_phase); time = c.time; step = c.step; pattern_first = on j.options.pattern_first }
+    record { nodes = j.nodes; order = n; transient = not (is_dc c.phase); time = c.time; step = c.step; pattern_first = on j.options.pattern_first }
 
 -- what a pass that was stamped as t leaves: where all is stamped, that is the system, and it is solved; a stamp that fails leaves the last system and the last vector.
 -- A diode before the failing one has already taken its new voltage.

@@ -3,7 +3,7 @@ use Rattle.std.specs.Prelude.{cond, List, eqb, Float}
 use Rattle.steps.specs.declared.Counters.{Counters}
 use Rattle.steps.specs.declared.Job.{Job}
 use Rattle.steps.specs.declared.Report.{Report}
-use Rattle.steps.specs.Phases.{dc_phase, transient_phase}
+use Rattle.steps.specs.Phases.{is_dc, is_transient}
 use Rattle.steps.specs.Control.{dc_after, step_after}
 use Rattle.machine.specs.State.{Written, written_of}
 use Rattle.machine.specs.Machine.{written_by, landed, accepts}
@@ -12,7 +12,7 @@ use Rattle.machine.specs.Machine.{written_by, landed, accepts}
 unfoldable pub dc_done : Job → Report → Counters → List Float → List Float → Written
 dc_done j r c v rows =
     let d = dc_after j.options j.transient r c in
-    cond (eqb d.phase transient_phase) (written_by d v rows) (written_of d rows)
+    cond (is_transient d.phase) (written_by d v rows) (written_of d rows)
 
 -- a step: where it is accepted, the new time may get a row
 unfoldable pub step_done : Job → Report → Counters → List Float → List Float → Written
@@ -34,4 +34,4 @@ unfoldable pub aftermath : Job → Report → Counters → List Float → List F
 aftermath j r c a v rows =
     let d = dc_done j r c v rows in
     let s = step_done j r c v rows in
-    cond (eqb c.phase dc_phase) (aftermath_of d.counters a d.rows) (aftermath_of s.counters (cond (accepts r) v a) s.rows)
+    cond (is_dc c.phase) (aftermath_of d.counters a d.rows) (aftermath_of s.counters (cond (accepts r) v a) s.rows)

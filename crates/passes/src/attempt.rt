@@ -4,17 +4,17 @@ ghost use Rattle.std.specs.Prelude.{◌≡◌, true, [], length};
 ghost use Rattle.convergence.specs.Convergence.{convergence_of};
 ghost use Rattle.groups.specs.Listed.{Listed};
 ghost use Rattle.groups.specs.Sources.{driven_of};
-ghost use Rattle.groups.specs.Stamping.{linear_of};
 ghost use Rattle.steps.specs.Control.{report_of};
 ghost use Rattle.steps.specs.Control.{solved, waited};
 ghost use Rattle.behind.specs.Behind.{behind_number};
-ghost use Rattle.machine.specs.State.{buffers_of, tried_of};
 ghost use Rattle.machine.specs.Machine.{compared, tried};
-ghost use Rattle.passes.specs.Sized.{Sized, Square};
-ghost use Rattle.passes.specs.Attempt.{circuit_of, pass_of, attempt_of};
-ghost use Rattle.passes.specs.Again.{failure_of, finished, Usable, Holds};
+ghost use Rattle.passes.specs.Sized.{Square};
+ghost use Rattle.passes.specs.Lent.{circuit_in, buffers_in, tried_in, linear_in, Kept, SizedIn, HoldsIn, UsableIn, Aside};
+ghost use Rattle.passes.specs.Attempt.{pass_of, attempt_of};
+ghost use Rattle.passes.specs.Again.{failure_of, finished};
 ghost use Rattle.passes.specs.Run.{renewed, renewed_of};
 
+use super::{Buffers, Circuit};
 use behind::behind_number;
 use convergence::convergence_check;
 use groups::diodes::stamp_diodes;
@@ -22,66 +22,38 @@ use groups::{Pass, stamp_linear};
 use loops::{cells, clear_if, copy};
 use machine::accepts;
 use numbers::verdict::DIODE_CURRENT;
-use options::Options;
 use solve::solve;
-use steps::{Counters, DC, Job, Report, report_of};
+use steps::{Counters, Job, Phase, Report};
 
 // Stamps and solves one pass, and reports on it; where the options say so, "yes" waits for every diode. The parameters are those of `solve_pass`.
 pub fn attempt(
-    j: Job,
+    k: Circuit,
     c: Counters,
     again: bool,
-    sheet: &[u8],
     places: &[u8],
-    points: &[u8],
-    base: &[f64],
     accepted: &[f64],
     held: &mut [f64],
-    elimination: &mut [f64],
-    system: &mut [f64],
-    vector: &mut [f64],
-    memory: &mut [f64],
+    w: &mut Buffers,
 ) -> Report
-    requires sized { Sized (length vector.old) (length accepted.now) (length base.now) (length elimination.old) (length system.old) }
-    requires usable { Usable (circuit_of j (length vector.old) sheet.now points.now) places.now again c accepted.now base.now held.old system.old vector.old memory.old }
-    ensures all { tried_of result system.new vector.new memory.new
-        ≡ tried (attempt_of (circuit_of j (length vector.old) sheet.now points.now)) j c accepted.now
-        (buffers_of base.now system.old vector.old memory.old []) }
-    ensures left { solved result ≡ true
-        → Holds (circuit_of j (length vector.old) sheet.now points.now) c accepted.now base.now held.new system.new vector.new memory.new }
+    requires sized { SizedIn w.old (length accepted.now) }
+    requires usable { UsableIn (circuit_in k w.old) places.now again c accepted.now held.old w.old }
+    ensures all { tried_in result w.new ≡ tried (attempt_of (circuit_in k.entry w.old)) k.entry.job c accepted.now (buffers_in w.old []) }
+    ensures left { solved result ≡ true → HoldsIn (circuit_in k.entry w.old) c accepted.now held.new w.new }
+    ensures kept { Kept w.new w.old × (w.new.base.now ≡ w.old.base.now) }
 {
-    let r = solve_pass(
-        j,
-        c,
-        again,
-        sheet,
-        places,
-        points,
-        base,
-        accepted,
-        held,
-        elimination,
-        system,
-        vector,
-        memory,
-    );
-    if j.options.catchup == 0 {
-        return r;
-    }
-    wait(j.options, sheet, vector, memory, r)
+    let r = solve_pass(k, c, again, places, accepted, held, w);
+    wait(k, w, r)
 }
 
-// The report on a pass that has left this vector and this memory: where the options say so, "yes" is "no" while a diode is behind.
-fn wait(o: Options, sheet: &[u8], vector: &[f64], memory: &[f64], r: Report) -> Report
-    ensures { result ≡ waited o (behind_number o sheet.now vector.now memory.now) r }
+// The report on a pass that has left these buffers: where the options say so, "yes" is "no" while a diode is behind.
+fn wait(k: Circuit, w: &Buffers, r: Report) -> Report
+    ensures { result ≡ waited k.entry.job.options (behind_number k.entry.job.options k.entry.sheet.now w.now.vector.now w.now.memory.now) r }
 {
-    if !accepts(r) {
+    let o = k.job.options;
+    if !accepts(r) | (o.catchup == 0) {
         return r;
     }
-    if o.catchup == 0 {
-        return r;
-    }
-    if behind_number(o, sheet, vector, memory) == 0 {
+    if behind_number(o, k.sheet, w.vector, w.memory) == 0 {
         return r;
     }
     Report::No
@@ -90,56 +62,30 @@ fn wait(o: Options, sheet: &[u8], vector: &[f64], memory: &[f64], r: Report) -> 
 // Stamps, solves and compares one pass. `again` says that the pass before was stamped alike; `places` lists the diodes; `held` holds what was stamped before them, or is
 // empty in a circuit without any.
 fn solve_pass(
-    j: Job,
+    k: Circuit,
     c: Counters,
     again: bool,
-    sheet: &[u8],
     places: &[u8],
-    points: &[u8],
-    base: &[f64],
     accepted: &[f64],
     held: &mut [f64],
-    elimination: &mut [f64],
-    system: &mut [f64],
-    vector: &mut [f64],
-    memory: &mut [f64],
+    w: &mut Buffers,
 ) -> Report
-    requires sized { Sized (length vector.old) (length accepted.now) (length base.now) (length elimination.old) (length system.old) }
-    requires usable { Usable (circuit_of j (length vector.old) sheet.now points.now) places.now again c accepted.now base.now held.old system.old vector.old memory.old }
-    ensures all { tried_of result system.new vector.new memory.new
-        ≡ compared (attempt_of (circuit_of j (length vector.old) sheet.now points.now)) j c accepted.now
-        (buffers_of base.now system.old vector.old memory.old []) }
-    ensures left { solved result ≡ true
-        → Holds (circuit_of j (length vector.old) sheet.now points.now) c accepted.now base.now held.new system.new vector.new memory.new }
+    requires sized { SizedIn w.old (length accepted.now) }
+    requires usable { UsableIn (circuit_in k w.old) places.now again c accepted.now held.old w.old }
+    ensures all { tried_in result w.new ≡ compared (attempt_of (circuit_in k.entry w.old)) k.entry.job c accepted.now (buffers_in w.old []) }
+    ensures left { solved result ≡ true → HoldsIn (circuit_in k.entry w.old) c accepted.now held.new w.new }
+    ensures kept { Kept w.new w.old × (w.new.base.now ≡ w.old.base.now) }
 {
     if (held.len() == 0) & again {
-        return compare(j, vector);
+        let vector = &mut *w.vector;
+        return compare(k.job, vector);
     }
-    let p = pass_of(j, vector.len(), c);
-    let k = stamp_first(
-        p,
-        again,
-        sheet,
-        points,
-        base,
-        accepted,
-        memory,
-        held,
-        elimination,
-    );
-    if k != 0 {
-        return failure(k);
+    let p = pass_of(k.job, w.vector.len(), c);
+    let code = stamp_first(p, again, k, accepted, held, w);
+    if code != 0 {
+        return failure(code);
     }
-    finish(
-        j,
-        c.first,
-        sheet,
-        places,
-        elimination,
-        system,
-        vector,
-        memory,
-    )
+    finish(k, c.first, places, w)
 }
 
 // The numbers of the pass to come: what of a run's job and counters its stamping reads.
@@ -149,7 +95,7 @@ pub fn pass_of(j: Job, order: usize, c: Counters) -> Pass
     Pass {
         nodes: j.nodes,
         order: order,
-        transient: c.phase != DC,
+        transient: c.phase != Phase::Dc,
         time: c.time,
         step: c.step,
         pattern_first: j.options.pattern_first != 0,
@@ -160,7 +106,7 @@ pub fn pass_of(j: Job, order: usize, c: Counters) -> Pass
 fn compare(j: Job, vector: &[f64]) -> Report
     ensures { result ≡ report_of (convergence_of vector.now vector.now j.nodes j.options) }
 {
-    report_of(convergence_check(vector, vector, j.nodes, j.options))
+    Report::from(convergence_check(vector, vector, j.nodes, j.options))
 }
 
 // The report on a pass that was not stamped whole.
@@ -177,60 +123,54 @@ fn failure(k: u8) -> Report
 fn stamp_first(
     p: Pass,
     again: bool,
-    sheet: &[u8],
-    points: &[u8],
-    base: &[f64],
+    k: Circuit,
     accepted: &[f64],
-    memory: &[f64],
     held: &mut [f64],
-    elimination: &mut [f64],
+    w: &mut Buffers,
 ) -> u8
-    requires elimination_len { length elimination.old ≡ length base.now }
-    requires held_len { again ≡ true
-        → (length held.old ≡ length base.now) × (linear_of p sheet.now points.now base.now accepted.now memory.now base.now ≡ driven_of 0 held.old) }
-    ensures stamps { driven_of result elimination.new
-        ≡ linear_of p sheet.now points.now base.now accepted.now memory.now base.now }
-    ensures holds { length held.old ≡ length base.now → result ≡ 0 → held.new ≡ elimination.new }
+    requires elimination_len { length w.old.elimination.now ≡ length w.old.base.now }
+    requires held_len { again ≡ true → (length held.old ≡ length w.old.base.now) × (linear_in p k accepted.now w.old ≡ driven_of 0 held.old) }
+    ensures stamps { driven_of result w.new.elimination.now ≡ linear_in p k.entry accepted.now w.old }
+    ensures holds { length held.old ≡ length w.old.base.now → result ≡ 0 → held.new ≡ w.new.elimination.now }
+    ensures rest { Aside w.new w.old }
 {
     if again {
-        copy(held, elimination);
+        copy(held, w.elimination);
         return 0;
     }
-    let k = stamp_linear(p, sheet, points, base, accepted, memory, elimination);
+    let base = &mut *w.base;
+    let memory = &mut *w.memory;
+    let elimination = &mut *w.elimination;
+    let code = stamp_linear(p, k.sheet, k.points, base, accepted, memory, elimination);
     copy(elimination, held);
-    k
+    code
 }
 
 // The diodes, and what follows once all is stamped.
-fn finish(
-    j: Job,
-    first: bool,
-    sheet: &[u8],
-    places: &[u8],
-    elimination: &mut [f64],
-    system: &mut [f64],
-    vector: &mut [f64],
-    memory: &mut [f64],
-) -> Report
-    requires square { Square (length vector.old) (length elimination.old) × (length system.old ≡ length elimination.old) }
-    requires listed { Listed sheet.now (length places.now) places.now }
-    ensures { tried_of result system.new vector.new memory.new
-        ≡ finished j first sheet.now elimination.old system.old vector.old memory.old }
+fn finish(k: Circuit, first: bool, places: &[u8], w: &mut Buffers) -> Report
+    requires square { Square (length w.old.vector.now) (length w.old.elimination.now) × (length w.old.system.now ≡ length w.old.elimination.now) }
+    requires listed { Listed k.sheet.now (length places.now) places.now }
+    ensures all { tried_in result w.new ≡ finished k.entry.job first k.entry.sheet.now w.old.elimination.now w.old.system.now w.old.vector.now w.old.memory.now }
+    ensures kept { Kept w.new w.old × (w.new.base.now ≡ w.old.base.now) }
 {
-    let k = stamp_diodes(
-        j.options,
-        sheet,
+    let vector = &mut *w.vector;
+    let n = vector.len();
+    let memory = &mut *w.memory;
+    let code = stamp_diodes(
+        k.job.options,
+        k.sheet,
         places,
-        vector.len(),
+        n,
         vector,
         memory,
-        elimination,
+        w.elimination,
     );
-    if k != 0 {
-        return failure(k);
+    if code != 0 {
+        return failure(code);
     }
-    copy(elimination, system);
-    renew(j, first, elimination, vector)
+    let elimination = &mut *w.elimination;
+    copy(elimination, w.system);
+    renew(k.job, first, elimination, w.vector)
 }
 
 // Solves the elimination matrix, compares, and leaves the new vector.
@@ -254,9 +194,10 @@ fn renew_in(
     requires { Square (length vector.old) (length elimination.old) × (length x.old ≡ length vector.old) }
     ensures { renewed_of result vector.new ≡ renewed j first elimination.old vector.old }
 {
-    solve(elimination, x, vector.len());
+    // Never refused: the sizes are a system's.
+    let _ = solve(elimination, x, vector.len());
     clear_if(vector, first);
     let r = convergence_check(x, vector, j.nodes, j.options);
     copy(x, vector);
-    report_of(r)
+    Report::from(r)
 }

@@ -1,7 +1,7 @@
 -- How a decimal number is written: d times 10^(place - 326), where d has n digits, so that its first digit stands for 10^(place + n - 327). Clients cite digits_in, layout_of, powered_of, power_size and parts_of.
-use Rattle.std.specs.Prelude.{ℕ, zero, suc, ◌+◌, ◌-◌, ◌/◌, ◌%◌, ◌^◌, cond, nat_le, nat_lt}
+use Rattle.std.specs.Prelude.{ℕ, zero, suc, ◌+◌, ◌-◌, ◌/◌, ◌%◌, ◌^◌, cond, nat_le, nat_lt, Option, None, Some}
 use Rattle.pen.specs.declared.number.Layout.{Layout}
-use Rattle.pen.specs.declared.number.Layout.TheVariants.{Whole, Below, Inside, Power, Nothing}
+use Rattle.pen.specs.declared.number.Layout.TheVariants.{Whole, Below, Inside, Power}
 use Rattle.pen.specs.declared.number.Parts.{Parts}
 
 -- how many of 10, 100, .., so many of them, the number n reaches
@@ -22,14 +22,14 @@ abbrev pub powered_of : ℕ → ℕ → Layout
 powered_of n end = Power (n - 1) (nat_lt end 327) (power_size end)
 
 -- with a power of ten below 10^-4 and from 10^16 on; else whole with zeros behind, all behind the point with zeros before, or on both sides. No float has a place above 1000.
-abbrev pub layout_of : ℕ → ℕ → Layout
+abbrev pub layout_of : ℕ → ℕ → Option Layout
 layout_of n place =
-    cond (nat_lt 1000 place) Nothing
-    (cond (nat_lt (place + n) 323) (powered_of n (place + n))
-    (cond (nat_lt 342 (place + n)) (powered_of n (place + n))
-    (cond (nat_le 326 place) (Whole (place - 326))
-    (cond (nat_le (place + n) 326) (Below (326 - (place + n)))
-    (Inside (326 - place))))))
+    cond (nat_lt 1000 place) None
+    (cond (nat_lt (place + n) 323) (Some (powered_of n (place + n)))
+    (cond (nat_lt 342 (place + n)) (Some (powered_of n (place + n)))
+    (cond (nat_le 326 place) (Some (Whole (place - 326)))
+    (cond (nat_le (place + n) 326) (Some (Below (326 - (place + n))))
+    (Some (Inside (326 - place)))))))
 
 -- the digits before the point and the k behind it, of which zeros stand first where the number behind has fewer
 abbrev pub parts_of : ℕ → ℕ → Parts

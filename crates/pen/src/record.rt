@@ -3,53 +3,180 @@ ghost use Rattle.std.specs.Prelude.{◌≡◌, slice_index};
 ghost use Rattle.num.specs.Lists.{«at»};
 ghost use Rattle.pen.specs.Fields.{whole_quoted, plain_byte};
 
-use super::ink::{Form, Pen, is_json, is_names, print, print_hex, quote, quoted, text};
-use super::number::{print_bits, print_float};
-use super::word::{call_word, cause_word, number_word, verdict_word};
-use std::io::Stdout;
+use super::ink::{Form, Pen};
+use super::number::{Number, bits, sign};
+use decimal::Decimal;
+use std::fmt;
+use std::fmt::{Display, Formatter, Write};
 
-// Begins a record of this kind; one always stands before it.
-pub fn begin(out: Stdout, p: Pen, kind: &[u8]) -> Pen {
-    let form = p.form;
-    match form {
-        Form::Json => text(
-            out,
-            text(out, text(out, p, b",\n{\"kind\":\""), kind),
-            b"\"",
-        ),
-        Form::Names => text(out, text(out, p, b"#"), kind),
-        Form::Tsv | Form::Person => text(out, p, kind),
+impl Pen {
+    // Begins a record of this kind; one always stands before it.
+    pub fn begin(&mut self, kind: &str) {
+        match self.form {
+            Form::Json => write!(self, ",\n{{\"kind\":\"{kind}\""),
+            Form::Names => write!(self, "#{kind}"),
+            Form::Tsv | Form::Person => write!(self, "{kind}"),
+        }
+    }
+
+    // Ends a record.
+    pub fn end(&mut self) {
+        match self.form {
+            Form::Json => write!(self, "}}"),
+            Form::Names | Form::Tsv | Form::Person => write!(self, "\n"),
+        }
+    }
+
+    // A field: its name in the header, both in JSON, and elsewhere its value.
+    fn field<N: Display + Drop, D: Display + Drop>(&mut self, name: N, value: D) {
+        match self.form {
+            Form::Json => write!(self, ",\"{name}\":{value}"),
+            Form::Names => write!(self, "\t{name}"),
+            Form::Tsv | Form::Person => write!(self, "\t{value}"),
+        }
+    }
+
+    // A quote in JSON, and nothing elsewhere.
+    fn quote(&self) -> &'static str {
+        match self.form {
+            Form::Json => "\"",
+            Form::Names | Form::Tsv | Form::Person => "",
+        }
+    }
+
+    // The file, as a field.
+    pub fn of_file(&mut self) {
+        let file = self.file;
+        self.whole("file", file);
+    }
+
+    // The file and the job, as fields.
+    pub fn of_job(&mut self) {
+        let job = self.job;
+        self.of_file();
+        self.whole("job", job);
+    }
+
+    // A whole number.
+    pub fn whole(&mut self, name: &str, n: u64) {
+        let json = matches!(self.form, Form::Json);
+        let q = if as_string(json, n) { "\"" } else { "" };
+        self.field(name, format_args!("{q}{n}{q}"));
+    }
+
+    // Words that need no escape.
+    pub fn label(&mut self, name: &str, words: &str) {
+        let q = self.quote();
+        self.field(name, format_args!("{q}{words}{q}"));
+    }
+
+    // A float: in decimal, and by its bits.
+    pub fn float(&mut self, name: &str, x: f64) {
+        let quote = self.quote();
+        self.field(name, Spelled { x, quote });
+        self.field(format_args!("{name}_bits"), Bits { x, quote });
+    }
+
+    // Floats of x, n of them from place `at` on: a list of decimals, and a list of bits.
+    pub fn floats(&mut self, name: &str, x: &[f64], at: usize, n: usize) {
+        let quote = self.quote();
+        let float = |k: usize| float_in(x, at.wrapping_add(k));
+        self.list(name, n, |k: usize| Spelled { x: float(k), quote });
+        self.list(
+            format_args!("{name}_bits"),
+            n,
+            |k: usize| Bits { x: float(k), quote },
+        );
+    }
+
+    // A field that is a list of n items.
+    fn list<N: Display + Drop, D: Display + Drop, F: Fn(usize) -> D>(
+        &mut self,
+        name: N,
+        n: usize,
+        item: F,
+    )
+        requires { F.IsAlwaysCallable item }
+    {
+        match self.form {
+            Form::Json => {
+                write!(self, ",\"{name}\":[");
+                self.items(n, ",", item);
+                write!(self, "]");
+            }
+            Form::Names => write!(self, "\t{name}"),
+            Form::Tsv | Form::Person => {
+                write!(self, "\t");
+                self.items(n, " ", item);
+            }
+        }
+    }
+
+    fn items<D: Display + Drop, F: Fn(usize) -> D>(&mut self, n: usize, between: &str, item: F)
+        requires { F.IsAlwaysCallable item }
+    {
+        for k in 0..n {
+            if 0 < k {
+                write!(self, "{between}");
+            }
+            write!(self, "{}", item(k));
+        }
+    }
+
+    // A file's name: bytes that every reader takes as they are, and all others by their number behind a percent sign.
+    pub fn file_name(&mut self, name: &[u8]) {
+        let q = self.quote();
+        self.field("name", format_args!("{q}{}{q}", Escaped(name)));
     }
 }
 
-// Ends a record.
-pub fn end(out: Stdout, p: Pen) -> Pen {
-    if is_json(p) {
-        return text(out, p, b"}");
-    }
-    text(out, p, b"\n")
+// A float for a machine: in decimal; what is no number in the spelling that every language reads, in quotes where the form has them.
+#[derive(Clone, Copy)]
+struct Spelled {
+    x: f64,
+    quote: &'static str,
 }
 
-// The file, as a field.
-pub fn of_file(out: Stdout, p: Pen) -> Pen {
-    whole(out, p, b"file", p.file)
+impl Display for Spelled {
+    fn fmt<W: Write>(&self, f: &mut Formatter<W>) -> fmt::Result {
+        let q = self.quote;
+        match decimal::decimal_of(self.x) {
+            Decimal::Nan => write!(f, "{q}NaN{q}"),
+            Decimal::Infinite { minus } => write!(f, "{q}{}Infinity{q}", sign(minus)),
+            Decimal::Finite { .. } => write!(f, "{}", Number(self.x)),
+        }
+    }
 }
 
-// The file and the job, as fields.
-pub fn of_job(out: Stdout, p: Pen) -> Pen {
-    whole(out, of_file(out, p), b"job", p.job)
+// The 64 bits of a float as 16 hexadecimal digits; a NaN's as 7ff8000000000000.
+#[derive(Clone, Copy)]
+struct Bits {
+    x: f64,
+    quote: &'static str,
 }
 
-// A whole number.
-pub fn whole(out: Stdout, p: Pen, name: &[u8], n: u64) -> Pen {
-    let q = named(out, p, name, b"");
-    if is_names(q) {
-        return q;
+impl Display for Bits {
+    fn fmt<W: Write>(&self, f: &mut Formatter<W>) -> fmt::Result {
+        let q = self.quote;
+        write!(f, "{q}{:016x}{q}", bits(self.x))
     }
-    if as_string(is_json(q), n) {
-        return quote(out, print(out, quote(out, q), n));
+}
+
+// Bytes that stand for themselves where they are plain.
+#[derive(Clone, Copy)]
+struct Escaped<'a>(&'a [u8]);
+
+impl Display for Escaped<'_> {
+    fn fmt<W: Write>(&self, f: &mut Formatter<W>) -> fmt::Result {
+        for &c in self.0 {
+            if plain(c) {
+                f.write_char(c as char)?;
+            } else {
+                write!(f, "%{c:02x}")?;
+            }
+        }
+        Ok(())
     }
-    print(out, q, n)
 }
 
 // Whether a whole number is written as a string: programs read a number of JSON as a float, which does not hold all numbers above 2^53.
@@ -59,158 +186,6 @@ fn as_string(json: bool, n: u64) -> bool
     json & (9007199254740992 < n)
 }
 
-// A word that needs no escape.
-pub fn label(out: Stdout, p: Pen, name: &[u8], value: &[u8]) -> Pen {
-    let q = named(out, p, name, b"");
-    if is_names(q) {
-        return q;
-    }
-    quoted(out, q, value)
-}
-
-// What a refusal's or a verdict's number means.
-pub fn meaning(out: Stdout, p: Pen, k: u8) -> Pen {
-    let q = named(out, p, b"meaning", b"");
-    if is_names(q) {
-        return q;
-    }
-    quote(out, number_word(out, quote(out, q), k))
-}
-
-// What a run's verdict means.
-pub fn verdict_meaning(out: Stdout, p: Pen, v: u8, transient: bool) -> Pen {
-    let q = named(out, p, b"meaning", b"");
-    if is_names(q) {
-        return q;
-    }
-    quote(out, verdict_word(out, quote(out, q), v, transient))
-}
-
-// What a refusal of a whole call means.
-pub fn call_meaning(out: Stdout, p: Pen, k: u8) -> Pen {
-    let q = named(out, p, b"meaning", b"");
-    if is_names(q) {
-        return q;
-    }
-    quote(out, call_word(out, quote(out, q), k))
-}
-
-// What a job's cause means.
-pub fn cause_meaning(out: Stdout, p: Pen, k: u8) -> Pen {
-    let q = named(out, p, b"meaning", b"");
-    if is_names(q) {
-        return q;
-    }
-    quote(out, cause_word(out, quote(out, q), k))
-}
-
-// A float: in decimal, and by its bits.
-pub fn float(out: Stdout, p: Pen, name: &[u8], x: f64) -> Pen {
-    let q = named(out, p, name, b"");
-    if is_names(q) {
-        return named(out, q, name, b"_bits");
-    }
-    let r = named(out, print_float(out, q, x), name, b"_bits");
-    quote(out, print_bits(out, quote(out, r), x))
-}
-
-// Floats of x, n of them from place `at` on: a list of decimals, and a list of bits.
-pub fn floats(out: Stdout, p: Pen, name: &[u8], x: &[f64], at: usize, n: u64) -> Pen {
-    let q = named(out, p, name, b"");
-    if is_names(q) {
-        return named(out, q, name, b"_bits");
-    }
-    let r = named(out, items(out, q, false, x, at, n), name, b"_bits");
-    items(out, r, true, x, at, n)
-}
-
-// A list of n floats of x from place `at` on, by their bits or in decimal.
-fn items(out: Stdout, p: Pen, bits: bool, x: &[f64], at: usize, n: u64) -> Pen {
-    let mut q = opened(out, p);
-    let mut i = at;
-    for k in 0..n {
-        q = item(out, apart(out, q, k), bits, float_in(x, i));
-        i = std::num::wrapping_add_usize(i, 1);
-    }
-    closed(out, q)
-}
-
-fn item(out: Stdout, p: Pen, bits: bool, x: f64) -> Pen {
-    if bits {
-        return quote(out, print_bits(out, quote(out, p), x));
-    }
-    print_float(out, p, x)
-}
-
-fn opened(out: Stdout, p: Pen) -> Pen {
-    if is_json(p) {
-        return text(out, p, b"[");
-    }
-    p
-}
-
-fn closed(out: Stdout, p: Pen) -> Pen {
-    if is_json(p) {
-        return text(out, p, b"]");
-    }
-    p
-}
-
-// What stands between two items of a list, before item k.
-fn apart(out: Stdout, p: Pen, k: u64) -> Pen {
-    if k == 0 {
-        return p;
-    }
-    if is_json(p) {
-        return text(out, p, b",");
-    }
-    text(out, p, b" ")
-}
-
-// x[i], and NaN past the end.
-pub fn float_in(x: &[f64], i: usize) -> f64
-    ensures { result ≡ «at» x.now i }
-{
-    if x.len() <= i {
-        return 0.0 / 0.0;
-    }
-    x[i]
-}
-
-// x[i], and 0 past the end.
-pub fn word_in(x: &[u64], i: usize) -> u64
-    ensures { result ≡ slice_index x.now i }
-{
-    if i < x.len() {
-        return x[i];
-    }
-    0
-}
-
-// A file's name: bytes that every reader takes as they are, and all others by their number behind a percent sign.
-pub fn file_name(out: Stdout, p: Pen, name: &[u8]) -> Pen {
-    let q = named(out, p, b"name", b"");
-    if is_names(q) {
-        return q;
-    }
-    quote(out, escaped(out, quote(out, q), name))
-}
-
-fn escaped(out: Stdout, p: Pen, s: &[u8]) -> Pen {
-    let mut q = p;
-    for i in 0..s.len() {
-        q = byte(out, q, s[i]);
-    }
-    q
-}
-
-fn byte(out: Stdout, p: Pen, c: u8) -> Pen {
-    if plain(c) {
-        return text(out, p, &[c]);
-    }
-    print_hex(out, text(out, p, b"%"), c as u64, 2)
-}
-
 // Whether a byte of a name stands for itself: a visible one that is no quote, no percent sign and no backslash.
 fn plain(c: u8) -> bool
     ensures { result ≡ plain_byte c }
@@ -218,16 +193,16 @@ fn plain(c: u8) -> bool
     (b'!' <= c) & (c <= b'~') & (c != b'"') & (c != b'%') & (c != b'\\')
 }
 
-// What stands before a field's value: in the header its name, with an ending.
-fn named(out: Stdout, p: Pen, name: &[u8], ending: &[u8]) -> Pen {
-    let form = p.form;
-    match form {
-        Form::Json => text(
-            out,
-            text(out, text(out, text(out, p, b",\""), name), ending),
-            b"\":",
-        ),
-        Form::Names => text(out, text(out, text(out, p, b"\t"), name), ending),
-        Form::Tsv | Form::Person => text(out, p, b"\t"),
-    }
+// x[i], and NaN past the end.
+pub fn float_in(x: &[f64], i: usize) -> f64
+    ensures { result ≡ «at» x.now i }
+{
+    x.get(i).copied().unwrap_or(f64::NAN)
+}
+
+// x[i], and 0 past the end.
+pub fn word_in(x: &[u64], i: usize) -> u64
+    ensures { result ≡ slice_index x.now i }
+{
+    x.get(i).copied().unwrap_or(0)
 }

@@ -1,4 +1,4 @@
--- The kit's remainder from the units of both floats, and where it is no number. Clients cite remains, blank, none, past and alike.
+-- The kit's remainder from the units of both floats, and where it is no number. Clients cite scaled, remains, blank, none, past and alike.
 use Rattle.std.specs.Prelude.{◌≡◌, refl, ℕ, zero, suc, ◌*◌, ◌%◌, ◌^◌, ◌<◌, true, false, cond, T, eqb, Float}
 use Rattle.std.proofs.Common.{sym, ap, ◌∙◌, mul-pos, mul_assoc, mul_right_comm, mul-div_cancel, add-zero, zero-mul, arith, pow_pos}
 use Rattle.std.proofs.Math.Nat.{mul-mod_left}
@@ -13,7 +13,8 @@ use Rattle.num.specs.Floats.{sign}
 use Rattle.exact.specs.Exact.{units}
 use Rattle.exact.specs.Laws.Units.{units_exact}
 
-scaled : (x n c : ℕ) → 0 < n → 0 < c → x % n * c ≡ (x * c) % (n * c)
+-- a common factor goes through the division
+pub scaled : (x n c : ℕ) → 0 < n → 0 < c → x % n * c ≡ (x * c) % (n * c)
 scaled x n c p q = sym (mod-mul (x * c) p q ∙ rw (mul-mod_left x c, mul-div_cancel x q) (add-zero (x % n * c)))
 
 -- x is not finite

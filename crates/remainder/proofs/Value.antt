@@ -1,9 +1,10 @@
--- The value of what is negated and of a product, from the values of the parts.
-use Rattle.std.specs.Prelude.{◌≡◌, refl, ℕ, ◌*◌, ◌<◌, Bool, true, false, Float}
-use Rattle.std.proofs.Common.{sym, ap, ◌∙◌, mul-pos, arith}
+-- The value of what is negated and of a product, from the values of the parts, and of a shifted one.
+use Rattle.std.specs.Prelude.{◌≡◌, refl, ℕ, ◌*◌, ◌%◌, ◌^◌, ◌<◌, Bool, true, false, Float}
+use Rattle.std.proofs.Common.{sym, ap, ◌∙◌, mul-pos, one-mul, mod-eq_of_lt, arith}
 use Rattle.std.specs.Float.{nan, inf, fin, Format}
 use Rattle.std.specs.Float.Ieee.{round, neg, mul, unlike, up, down}
 use Rattle.std.specs.Float.Ieee.Exact.{HasValue}
+use lib.Pow.{pow-lt}
 use lib.Ieee.Fits.{down_pos}
 use lib.Ieee.Scale.{round_same}
 
@@ -28,3 +29,7 @@ product f (fin z m e) nan s t a b c d p q h k = absurd k
 product f (fin z m e) (inf w) s t a b c d p q h k = absurd k
 product f (fin z m e) (fin w n g) s t a b c d p q h k =
     rw (← h.0, ← k.0) (round_same f (unlike z w) (m * up e * (n * up g)) (down e * down g) (a * b) (c * d) (mul-pos (down_pos e) (down_pos g)) (mul-pos p q) (cross (m * up e) (n * up g) (down e) (down g) a b c d h.1 k.1))
+
+-- a one that is shifted by fewer than 53 places loses nothing
+pub shifted : (d : ℕ) → d < 53 → (1 * 2 ^ d) % 18446744073709551616 ≡ 2 ^ d
+shifted d h = ap (λ (z : ℕ). z % 18446744073709551616) (one-mul (2 ^ d)) ∙ mod-eq_of_lt (pow-lt {i = d} {j = 64} (omega arith))

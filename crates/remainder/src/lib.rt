@@ -6,12 +6,14 @@ ghost use Rattle.std.specs.Float.{binary64};
 ghost use Rattle.std.specs.Float.Ieee.{rem, round};
 ghost use Rattle.std.specs.Float.Ieee.Exact.{HasValue};
 
+use exact::Parts;
+
 // x less the whole multiple of y that is next below it in size, with x's sign.
 pub fn remainder(x: f64, y: f64) -> f64
     ensures { result ≡ rem binary64 x y }
 {
     if !num::finite(x) {
-        return num::float_of(0x7ff8000000000000);
+        return f64::NAN;
     }
     if !num::finite(y) {
         return if y == y { x } else { y };
@@ -19,27 +21,23 @@ pub fn remainder(x: f64, y: f64) -> f64
     let a = exact::digits_of(x);
     let b = exact::digits_of(y);
     if b.digits == 0 {
-        return num::float_of(0x7ff8000000000000);
+        return f64::NAN;
     }
-    put(
-        left(a.digits, a.place, b.digits, b.place),
-        lower(a.place, b.place),
-        a.minus,
-    )
+    put(left(a, b), a.place.min(b.place), a.minus)
 }
 
-// What is left of m * 2^p, divided by n * 2^q, at the lower of the two places.
-fn left(m: u64, p: usize, n: u64, q: usize) -> u64
-    requires some { 0 < n }
-    requires digits { m < 2 ^ 53 }
-    requires others { n < 2 ^ 53 }
-    ensures value { result * 2 ^ min p q ≡ (m * 2 ^ p) % (n * 2 ^ q) }
+// What is left of the size of a, divided by that of b, at the lower of the two places.
+fn left(a: Parts, b: Parts) -> u64
+    requires some { 0 < b.digits }
+    requires digits { a.digits < 2 ^ 53 }
+    requires others { b.digits < 2 ^ 53 }
+    ensures value { result * 2 ^ min a.place b.place ≡ (a.digits * 2 ^ a.place) % (b.digits * 2 ^ b.place) }
     ensures few { result < 2 ^ 53 }
 {
-    if q <= p {
-        return doubled(m % n, p - q, n);
+    if b.place <= a.place {
+        return doubled(a.digits % b.digits, a.place - b.place, b.digits);
     }
-    short(m, q - p, n)
+    short(a.digits, b.place - a.place, b.digits)
 }
 
 // r doubled k times, modulo n.
@@ -49,6 +47,7 @@ fn doubled(r: u64, k: usize, n: u64) -> u64
     ensures { result ≡ (r * 2 ^ k) % n }
 {
     let mut left = r;
+    // kept: a loop, since each turn needs that `left` is below n, which a fold's closure does not know
     for _i in 0..k {
         left = 2 * left % n;
     }
@@ -66,12 +65,6 @@ fn short(m: u64, d: usize, n: u64) -> u64
     }
     let unit = 1u64 << d;
     m / unit % n * unit + m % unit
-}
-
-fn lower(p: usize, q: usize) -> usize
-    ensures { result ≡ min p q }
-{
-    if q <= p { q } else { p }
 }
 
 // r * 2^place in units of 2^-1074, with a sign.

@@ -24,10 +24,8 @@ ghost use Rattle.savrunte.specs.Sound.{sound_answer, sound_door_of, sound_door_r
 ghost use Rattle.savrunte.specs.Answers.{sin_answer, convergence_answer, judge_answer, companion, diode_answer};
 
 use convergence::Convergence;
-use engine::Outcome;
-use functions::Sine;
+use engine::{Input, Outcome};
 use judge::Judged;
-use models::diode::Linear;
 use options::Options;
 use sound::Soundings;
 use spreads::Spread;
@@ -138,18 +136,14 @@ pub fn savrunte_dc(
     ensures scratch { Scratched (call_of options false nodes sources sheet.now points.now elimination.old
         (buffers_of base.old system.old vector.old memory.old [])) elimination.new }
 {
-    let r = engine::dc_operating_point(
+    let i = Input {
         sheet,
         points,
         nodes,
         sources,
         options,
-        base,
-        system,
-        elimination,
-        vector,
-        memory,
-    );
+    };
+    let r = engine::dc_operating_point(i, base, system, elimination, vector, memory);
     dc_answer(r)
 }
 
@@ -173,19 +167,14 @@ pub fn savrunte_transient(
     ensures scratch { Scratched (call_of options true nodes sources sheet.now points.now elimination.old
         (buffers_of base.old system.old vector.old memory.old rows.old)) elimination.new }
 {
-    let r = engine::transient_analysis(
+    let i = Input {
         sheet,
         points,
         nodes,
         sources,
         options,
-        base,
-        system,
-        elimination,
-        vector,
-        memory,
-        rows,
-    );
+    };
+    let r = engine::transient_analysis(i, base, system, elimination, vector, memory, rows);
     transient_answer(r)
 }
 
@@ -331,11 +320,11 @@ pub fn savrunte_sin(x: f64) -> SinAnswer
 {
     let s = functions::sin(x);
     match s {
-        Sine::Value(y) => SinAnswer {
+        Some(y) => SinAnswer {
             refusal: 0,
             value: y,
         },
-        Sine::Refused => SinAnswer {
+        None => SinAnswer {
             refusal: numbers::refusal::ARGUMENT as u64,
             value: 0.0,
         },
@@ -397,13 +386,13 @@ pub fn savrunte_diode(i_sat: f64, tdegc: f64, v: f64, memory: f64, options: Opti
 {
     let d = models::diode::linearize(options, i_sat, tdegc, v, memory);
     match d {
-        Linear::Model { g, i, memory } => DiodeAnswer {
+        Some(m) => DiodeAnswer {
             verdict: 0,
-            g: g,
-            i: i,
-            memory: memory,
+            g: m.g,
+            i: m.i,
+            memory: m.memory,
         },
-        Linear::NotFinite => DiodeAnswer {
+        None => DiodeAnswer {
             verdict: numbers::verdict::DIODE_CURRENT as u64,
             g: 0.0,
             i: 0.0,
@@ -415,7 +404,10 @@ pub fn savrunte_diode(i_sat: f64, tdegc: f64, v: f64, memory: f64, options: Opti
 pub fn savrunte_solve(matrix: &mut [f64], vector: &mut [f64], rows: usize) -> u64
     ensures { solved_as result matrix.new vector.new ≡ solve_of rows matrix.old vector.old }
 {
-    solve::solve(matrix, vector, rows) as u64
+    match solve::solve(matrix, vector, rows) {
+        Ok(()) => 0,
+        Err(refusal) => refusal.number() as u64,
+    }
 }
 
 pub fn savrunte_judge(
@@ -426,18 +418,17 @@ pub fn savrunte_judge(
 ) -> JudgeAnswer
     ensures { result ≡ judge_answer rows (judge_of rows system.now vector.now tolerances.now) }
 {
-    let j = judge::judge(system, vector, tolerances, rows);
-    match j {
-        Judged::Accepted => JudgeAnswer {
+    match judge::judge(system, vector, tolerances, rows) {
+        Ok(Judged::Accepted) => JudgeAnswer {
             refusal: 0,
             row: rows as u64,
         },
-        Judged::Rejected(i) => JudgeAnswer {
+        Ok(Judged::Rejected(i)) => JudgeAnswer {
             refusal: 0,
             row: i as u64,
         },
-        Judged::Refused(k) => JudgeAnswer {
-            refusal: k as u64,
+        Err(k) => JudgeAnswer {
+            refusal: k.number() as u64,
             row: 0,
         },
     }
@@ -474,8 +465,8 @@ fn transient_answer(r: Outcome) -> TransientAnswer
         Outcome::Ended(e) => TransientAnswer {
             refusal: 0,
             place: 0,
-            verdict: e.verdict as u64,
-            dc_verdict: e.dc as u64,
+            verdict: e.verdict.number() as u64,
+            dc_verdict: e.dc.number() as u64,
             passes: e.passes,
             rows: e.rows,
             end: e.end,

@@ -1,177 +1,143 @@
 // What is written about a whole call: its beginning with the header lines, each file that is named, its end with the status, and its faults.
-use super::switch::Switches;
+use super::job::{JobHead, Volts};
+use super::spread::{Run, Spreads};
 use super::{cause, job, spread};
 use engine::Ending;
-use pen::{Form, Pen, begin, end, file_name, in_form, is_person, label, of_file, text, whole};
-use std::io::{Stderr, Stdout};
+use numbers::verdict::Verdict;
+use pen::{Form, Pen, Unknown};
+use std::fmt::Display;
+use std::io::Stderr;
 
 // The beginning of a call. A first record stands here, so that every other one has one before it.
-pub fn call_begun(out: Stdout, p: Pen) -> Pen {
-    let form = p.form;
-    match form {
-        Form::Tsv => text(out, names(out, p), b"format\t1\n"),
-        Form::Json => text(out, p, b"[\n{\"kind\":\"format\",\"version\":1}"),
-        Form::Person | Form::Names => p,
+pub fn call_begun(p: &mut Pen) {
+    match p.form {
+        Form::Tsv => {
+            names(p);
+            write!(p, "format\t1\n");
+        }
+        Form::Json => write!(p, "[\n{{\"kind\":\"format\",\"version\":1}}"),
+        Form::Person | Form::Names => {}
     }
 }
 
 // One header line for each kind of record: the very functions that write the records, with a pen that writes names alone.
-fn names(out: Stdout, p: Pen) -> Pen {
+fn names(p: &mut Pen) {
     let form = p.form;
-    let q = text(out, in_form(p, Form::Names), b"#format\tversion\n");
-    let r = fault_record(out, file_record(out, q, b"", false));
-    in_form(
-        status_record(out, spread_names(out, job_names(out, r)), 0),
-        form,
-    )
+    p.set_form(Form::Names);
+    write!(p, "#format\tversion\n");
+    file_record(p, b"", false);
+    fault_record(p);
+    job_names(p);
+    spread_names(p);
+    status_record(p, 0);
+    p.set_form(form);
 }
 
-fn job_names(out: Stdout, p: Pen) -> Pen {
+fn job_names(p: &mut Pen) {
     let e = Ending {
-        verdict: 0,
-        dc: 0,
+        verdict: Verdict::Settled,
+        dc: Verdict::Settled,
         passes: 0,
         rows: 0,
         end: 0.0,
         behind: 0,
     };
-    let q = job::refused_record(out, job::job_record(out, p, false, 0, 0, off()), 0, 0);
-    let r = job::behind_record(out, job::ended_record(out, q, e, false), 0, 0.0, 0.0);
-    let s = job::unknown_record(out, r, b"", 0, 0.0);
-    job::judged_record(out, job::row_record(out, s, &[], 0, 0, 0), b"", 0, 0)
+    job::job_record(p, JobHead::default());
+    job::refused_record(p, 0, 0);
+    job::ended_record(p, e, false);
+    job::behind_record(p, 0, Volts::default());
+    job::unknown_record(p, Unknown::Node(0), 0.0);
+    job::row_record(p, &[], 0, 0, 0);
+    job::judged_record(p, "", 0, 0);
 }
 
-fn off() -> Switches {
-    Switches {
-        catchup: 0,
-        pattern_first: 0,
-    }
-}
-
-fn spread_names(out: Stdout, p: Pen) -> Pen {
-    let q = spread::call_refused_record(
-        out,
-        spread::spreads_record(out, p, 0, 0, 0, 0, 0, off()),
-        0,
-    );
-    let r = spread::total_record(out, spread::count_record(out, q, 0, 0), 0, 0);
-    let s = cause::cause_record(out, cause::sound_record(out, r, 0, 0), 0, 0);
-    let t = cause::not_sound_record(out, s, 0, 0, 0.0, 0.0, 0);
-    let u = spread::not_settled_record(out, value_names(out, t), 0, 0, 0);
-    spread::run_record(out, u, 0, 0, 0, 0, 0.0)
+fn spread_names(p: &mut Pen) {
+    spread::spreads_record(p, Spreads::default());
+    spread::call_refused_record(p, 0);
+    spread::count_record(p, 0, 0);
+    spread::total_record(p, 0, 0);
+    cause::sound_record(p, 0, 0);
+    cause::cause_record(p, 0, 0);
+    cause::not_sound_record(p, 0, 0, Volts::default(), 0);
+    value_names(p);
+    spread::not_settled_record(p, Run::default());
+    spread::run_record(p, Run::default(), 0.0);
 }
 
 // The values over the sound runs, and over the settled ones.
-fn value_names(out: Stdout, p: Pen) -> Pen {
-    let q = cause::value_record(out, p, b"sound_smallest", 0.0, b"job", 0);
-    let r = cause::value_record(out, q, b"sound_largest", 0.0, b"job", 0);
-    let s = cause::value_record(out, r, b"sound_mean", 0.0, b"sound", 0);
-    let t = cause::value_record(out, s, b"smallest", 0.0, b"job", 0);
-    let u = cause::value_record(out, t, b"largest", 0.0, b"job", 0);
-    cause::value_record(out, u, b"mean", 0.0, b"settled", 0)
+fn value_names(p: &mut Pen) {
+    cause::value_record(p, "sound_smallest", 0.0, "job", 0);
+    cause::value_record(p, "sound_largest", 0.0, "job", 0);
+    cause::value_record(p, "sound_mean", 0.0, "sound", 0);
+    cause::value_record(p, "smallest", 0.0, "job", 0);
+    cause::value_record(p, "largest", 0.0, "job", 0);
+    cause::value_record(p, "mean", 0.0, "settled", 0);
 }
 
 // A file that is named; a person sees its name where there are several.
-pub fn file_begun(out: Stdout, p: Pen, name: &[u8], spreads: bool, several: bool) -> Pen {
-    if !is_person(p) {
-        return file_record(out, p, name, spreads);
+pub fn file_begun(p: &mut Pen, name: &[u8], spreads: bool, several: bool) {
+    if !p.is_person() {
+        file_record(p, name, spreads);
+    } else if several {
+        write!(p, "File ");
+        p.bytes(name);
+        write!(p, "\n");
     }
-    if several {
-        return text(out, text(out, text(out, p, b"File "), name), b"\n");
-    }
-    p
 }
 
-fn file_record(out: Stdout, p: Pen, name: &[u8], spreads: bool) -> Pen {
-    end(
-        out,
-        file_name(
-            out,
-            holds(out, of_file(out, begin(out, p, b"file")), spreads),
-            name,
-        ),
-    )
-}
-
-fn holds(out: Stdout, p: Pen, spreads: bool) -> Pen {
-    if spreads {
-        return label(out, p, b"holds", b"spreads");
-    }
-    label(out, p, b"holds", b"jobs")
+fn file_record(p: &mut Pen, name: &[u8], spreads: bool) {
+    p.begin("file");
+    p.of_file();
+    p.label("holds", if spreads { "spreads" } else { "jobs" });
+    p.file_name(name);
+    p.end();
 }
 
 // The end of a call, with the status that the shell is answered.
-pub fn call_ended(out: Stdout, p: Pen, status: u8) -> Pen {
-    let form = p.form;
-    match form {
-        Form::Person | Form::Names => p,
-        Form::Tsv => status_record(out, p, status),
-        Form::Json => text(out, status_record(out, p, status), b"\n]\n"),
+pub fn call_ended(p: &mut Pen, status: u8) {
+    match p.form {
+        Form::Person | Form::Names => {}
+        Form::Tsv => status_record(p, status),
+        Form::Json => {
+            status_record(p, status);
+            write!(p, "\n]\n");
+        }
     }
 }
 
-fn status_record(out: Stdout, p: Pen, status: u8) -> Pen {
-    end(
-        out,
-        whole(out, begin(out, p, b"status"), b"status", status as u64),
-    )
+fn status_record(p: &mut Pen, status: u8) {
+    p.begin("status");
+    p.whole("status", status as u64);
+    p.end();
 }
 
 // A fault of the file: its name and a sentence on standard error, and for a machine a record.
-pub fn file_fault(out: Stdout, err: Stderr, p: Pen, name: &[u8], sentence: &[u8]) -> Pen {
+pub fn file_fault<D: Display + Drop>(err: Stderr, p: &mut Pen, name: &[u8], sentence: D) {
     fault(err, name, sentence);
-    faulted(out, p)
-}
-
-// A fault of job k of the file, with its number inside the sentence.
-pub fn job_fault(
-    out: Stdout,
-    err: Stderr,
-    p: Pen,
-    name: &[u8],
-    before: &[u8],
-    k: u64,
-    behind: &[u8],
-) -> Pen {
-    tell(err, b"savrunte: ");
-    tell(err, name);
-    tell(err, b": ");
-    tell(err, before);
-    let _ = err.print(k);
-    tell(err, behind);
-    tell(err, b"\n");
-    faulted(out, p)
+    faulted(p);
 }
 
 // The record of a fault, for a machine.
-pub fn faulted(out: Stdout, p: Pen) -> Pen {
-    if is_person(p) {
-        return p;
+pub fn faulted(p: &mut Pen) {
+    if !p.is_person() {
+        fault_record(p);
     }
-    fault_record(out, p)
 }
 
-fn fault_record(out: Stdout, p: Pen) -> Pen {
-    end(out, of_file(out, begin(out, p, b"fault")))
+fn fault_record(p: &mut Pen) {
+    p.begin("fault");
+    p.of_file();
+    p.end();
 }
 
-// A fault on standard error: of what, and a sentence.
-pub fn fault(err: Stderr, what: &[u8], sentence: &[u8]) {
-    tell(err, b"savrunte: ");
-    tell(err, what);
-    tell(err, b": ");
-    tell(err, sentence);
-    tell(err, b"\n");
+// A fault on standard error: of what, and a sentence. Where standard error takes nothing, the status alone tells of it.
+pub fn fault<D: Display + Drop>(err: Stderr, what: &[u8], sentence: D) {
+    let _ = print!(err; "savrunte: ");
+    let _ = err.write_all(what);
+    let _ = print!(err; ": {sentence}\n");
 }
 
 // A fault on standard error that is of nothing by name.
-pub fn sentence(err: Stderr, s: &[u8]) {
-    tell(err, b"savrunte: ");
-    tell(err, s);
-    tell(err, b"\n");
-}
-
-// A part of a fault. Where standard error takes nothing, the status alone tells of it.
-fn tell(err: Stderr, s: &[u8]) {
-    let _ = err.write_all(s);
+pub fn sentence(err: Stderr, s: &str) {
+    let _ = print!(err; "savrunte: {s}\n");
 }

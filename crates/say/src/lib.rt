@@ -8,10 +8,8 @@ mod job; // job.rt: a single job
 mod spread; // spread.rt: all spreads of a call, job by job
 mod switch; // switch.rt: the options that are on or off
 
-pub use call::{
-    call_begun, call_ended, fault, faulted, file_begun, file_fault, job_fault, sentence,
-};
-pub use cause::{is_unsound, not_sound, not_sound_line, range};
-pub use job::{behind, ended, heading, judged, refused, rows, vector};
-pub use spread::{asked, call_refused, counts, runs, unsettled};
+pub use call::{call_begun, call_ended, fault, faulted, file_begun, file_fault, sentence};
+pub use cause::{Values, is_unsound, not_sound, not_sound_line, range};
+pub use job::{JobHead, Volts, behind, ended, heading, judged, refused, rows, vector};
+pub use spread::{Lists, Run, Spreads, asked, call_refused, counts, runs, unsettled};
 pub use switch::Switches;

@@ -2,166 +2,140 @@
 ghost use Rattle.std.specs.Prelude.{◌≡◌, min};
 ghost use Rattle.say.specs.Totals.{total_of, shown, number_of, number_count};
 
+use super::cause;
+use super::cause::Cause;
 use super::switch::Switches;
-use super::{cause, switch};
 use numbers::cause::{BEHIND, REJECTED};
 use numbers::limit::{JOB_CAUSES, JOB_NUMBERS};
-use numbers::refusal::TOLERANCE;
-use pen::{
-    Pen, Unknown, at_job, begin, call_meaning, call_word, end, float, float_in, is_person,
-    is_refusal, label, meaning, of_file, of_job, print, text, which, whole, word_in,
-};
-use std::io::Stdout;
+use numbers::refusal::Refusal;
+use pen::{Pen, Unknown, call_words, float_in, is_refusal, number_words, word_in};
 
 // The numbers that a job can have are those below this one.
 const NUMBERS: u8 = JOB_NUMBERS as u8;
 
-// What was asked for: with so many tolerances each vector is judged.
-pub fn asked(
-    out: Stdout,
-    p: Pen,
-    jobs: u64,
-    nodes: u64,
-    sources: u64,
-    unknown: u64,
-    tolerances: u64,
-    s: Switches,
-) -> Pen {
-    if is_person(p) {
-        let q = asked_line(out, p, jobs, nodes, sources, unknown);
-        return text(
-            out,
-            switch::of_a_call(out, judging(out, q, tolerances), s),
-            b"\n",
-        );
-    }
-    spreads_record(out, p, jobs, nodes, sources, unknown, tolerances, s)
+// What a call of spreads asks for: with so many tolerances each vector is judged.
+#[derive(Clone, Copy, Debug, Default, PartialEq, Eq)]
+pub struct Spreads {
+    pub jobs: u64,
+    pub nodes: u64,
+    pub sources: u64,
+    pub unknown: u64, // the place of the chosen one
+    pub tolerances: u64,
+    pub switches: Switches,
 }
 
-fn asked_line(out: Stdout, p: Pen, jobs: u64, nodes: u64, sources: u64, unknown: u64) -> Pen {
-    let q = print(out, text(out, p, b"Spreads: "), jobs);
-    let r = print(
-        out,
-        text(out, q, b" jobs in one call, DC operating point, "),
-        nodes,
+// What a call leaves for each of its jobs: a word in each list. What a list lacks is 0.
+#[derive(Clone, Copy)]
+pub struct Lists<'a> {
+    pub causes: &'a [u64],
+    pub places: &'a [u64],
+    pub passes: &'a [u64],
+}
+
+impl Lists<'_> {
+    pub fn run(&self, job: u64) -> Run {
+        let k = job as usize;
+        Run {
+            job,
+            cause: word_in(self.causes, k),
+            place: word_in(self.places, k),
+            passes: word_in(self.passes, k),
+        }
+    }
+}
+
+// A job of a call: its cause, the place of that, and its passes.
+#[derive(Clone, Copy, Debug, Default, PartialEq, Eq)]
+pub struct Run {
+    pub job: u64,
+    pub cause: u64,
+    pub place: u64,
+    pub passes: u64,
+}
+
+// What was asked for.
+pub fn asked(p: &mut Pen, s: Spreads) {
+    if !p.is_person() {
+        spreads_record(p, s);
+        return;
+    }
+    let unknown = Unknown::at(s.unknown, s.nodes);
+    write!(
+        p,
+        "Spreads: {} jobs in one call, DC operating point, ",
+        s.jobs
     );
-    let s = print(out, text(out, r, b" nodes with ground, "), sources);
-    name(
-        out,
-        text(out, s, b" sources; the chosen unknown is "),
-        unknown,
-        nodes,
-    )
-}
-
-fn judging(out: Stdout, p: Pen, tolerances: u64) -> Pen {
-    if tolerances == 0 {
-        return text(out, p, b"; not judged");
+    write!(p, "{} nodes with ground, {} sources; ", s.nodes, s.sources);
+    write!(p, "the chosen unknown is {unknown}");
+    if s.tolerances == 0 {
+        write!(p, "; not judged");
+    } else {
+        write!(p, "; judged with {} tolerances", s.tolerances);
     }
-    text(
-        out,
-        print(out, text(out, p, b"; judged with "), tolerances),
-        b" tolerances",
-    )
+    s.switches.of_a_call(p);
+    write!(p, "\n");
 }
 
-// The unknown's name: a node's voltage, or a source's current.
-fn name(out: Stdout, p: Pen, unknown: u64, nodes: u64) -> Pen {
-    let u = which(unknown, nodes);
-    match u {
-        Unknown::Node(i) => print(out, text(out, p, b"node "), i),
-        Unknown::Source(i) => print(out, text(out, p, b"source "), i),
-    }
-}
-
-pub fn spreads_record(
-    out: Stdout,
-    p: Pen,
-    jobs: u64,
-    nodes: u64,
-    sources: u64,
-    unknown: u64,
-    tolerances: u64,
-    s: Switches,
-) -> Pen {
-    let q = whole(out, of_file(out, begin(out, p, b"spreads")), b"jobs", jobs);
-    let r = unknown_field(
-        out,
-        whole(out, whole(out, q, b"nodes", nodes), b"sources", sources),
-        unknown,
-        nodes,
-    );
-    end(
-        out,
-        switch::fields(out, whole(out, r, b"tolerances", tolerances), s),
-    )
-}
-
-fn unknown_field(out: Stdout, p: Pen, unknown: u64, nodes: u64) -> Pen {
-    let u = which(unknown, nodes);
-    match u {
-        Unknown::Node(i) => whole(out, label(out, p, b"of", b"node"), b"index", i),
-        Unknown::Source(i) => whole(out, label(out, p, b"of", b"source"), b"index", i),
-    }
+pub fn spreads_record(p: &mut Pen, s: Spreads) {
+    let (of, index) = Unknown::at(s.unknown, s.nodes).parts();
+    p.begin("spreads");
+    p.of_file();
+    p.whole("jobs", s.jobs);
+    p.whole("nodes", s.nodes);
+    p.whole("sources", s.sources);
+    p.label("of", of);
+    p.whole("index", index);
+    p.whole("tolerances", s.tolerances);
+    s.switches.fields(p);
+    p.end();
 }
 
 // A refusal of the whole call.
-pub fn call_refused(out: Stdout, p: Pen, number: u8) -> Pen {
-    if is_person(p) {
-        let q = print(
-            out,
-            text(out, p, b"the whole call is refused by "),
-            number as u64,
-        );
-        return text(
-            out,
-            call_word(out, text(out, q, b" ("), number),
-            b"): no job ran\n",
-        );
+pub fn call_refused(p: &mut Pen, number: u8) {
+    if !p.is_person() {
+        call_refused_record(p, number);
+        return;
     }
-    call_refused_record(out, p, number)
+    let words = call_words(number);
+    write!(
+        p,
+        "the whole call is refused by {number} ({words}): no job ran\n"
+    );
 }
 
-pub fn call_refused_record(out: Stdout, p: Pen, number: u8) -> Pen {
-    let q = whole(
-        out,
-        of_file(out, begin(out, p, b"call_refused")),
-        b"number",
-        number as u64,
-    );
-    end(out, call_meaning(out, q, number))
+pub fn call_refused_record(p: &mut Pen, number: u8) {
+    p.begin("call_refused");
+    p.of_file();
+    p.whole("number", number as u64);
+    p.label("meaning", call_words(number));
+    p.end();
 }
 
 // How many jobs have each cause, of which `counts` has a word each, and that these are all the jobs given. A machine gets the jobs by their own numbers, too.
-pub fn counts(out: Stdout, p: Pen, counts: &[u64], jobs: u64, judged: bool) -> Pen {
+pub fn counts(p: &mut Pen, counts: &[u64], jobs: u64, judged: bool) {
     let sum = total(counts);
-    if is_person(p) {
-        return total_line(out, cause::causes(out, p, counts, judged), sum, jobs);
+    if p.is_person() {
+        cause::causes(p, counts, judged);
+        write!(p, "all: {sum} runs of {jobs} jobs given\n");
+        return;
     }
-    let q = total_record(out, numbers(out, p, counts), sum, jobs);
-    cause::causes(
-        out,
-        cause::sound_record(out, q, word_in(counts, 0), jobs),
-        counts,
-        judged,
-    )
+    for k in 0..NUMBERS {
+        let count = number_count(counts, k);
+        if shows(k, count) {
+            count_record(p, k, count);
+        }
+    }
+    total_record(p, sum, jobs);
+    cause::sound_record(p, word_in(counts, 0), jobs);
+    cause::causes(p, counts, judged);
 }
 
-fn total_line(out: Stdout, p: Pen, sum: u64, jobs: u64) -> Pen {
-    let q = text(out, print(out, text(out, p, b"all: "), sum), b" runs of ");
-    text(out, print(out, q, jobs), b" jobs given\n")
-}
-
-pub fn total_record(out: Stdout, p: Pen, sum: u64, jobs: u64) -> Pen {
-    end(
-        out,
-        whole(
-            out,
-            whole(out, of_file(out, begin(out, p, b"total")), b"runs", sum),
-            b"jobs",
-            jobs,
-        ),
-    )
+pub fn total_record(p: &mut Pen, sum: u64, jobs: u64) {
+    p.begin("total");
+    p.of_file();
+    p.whole("runs", sum);
+    p.whole("jobs", jobs);
+    p.end();
 }
 
 // The sum of the counts of all causes, modulo 2^64: the very sum where it is below that, as the counts of a call are (proofs/Laws/Totals.antt).
@@ -170,51 +144,35 @@ fn total(counts: &[u64]) -> u64
 {
     let mut sum: u64 = 0;
     for k in 0..JOB_CAUSES {
-        sum = std::num::wrapping_add_u64(sum, word_in(counts, k));
+        sum = sum.wrapping_add(word_in(counts, k));
     }
     sum
 }
 
-// The record of each number that a job can have or that came.
-fn numbers(out: Stdout, p: Pen, counts: &[u64]) -> Pen {
-    let mut q = p;
-    for k in 0..NUMBERS {
-        q = numbered(out, q, k, number_count(counts, k));
-    }
-    q
-}
-
-fn numbered(out: Stdout, p: Pen, k: u8, count: u64) -> Pen {
-    if !shows(k, count) {
-        return p;
-    }
-    count_record(out, p, k, count)
-}
-
-pub fn count_record(out: Stdout, p: Pen, k: u8, count: u64) -> Pen {
-    let q = whole(
-        out,
-        of_file(out, begin(out, p, b"count")),
-        b"number",
-        k as u64,
-    );
-    end(out, whole(out, meaning(out, q, k), b"jobs", count))
+pub fn count_record(p: &mut Pen, k: u8, count: u64) {
+    p.begin("count");
+    p.of_file();
+    p.whole("number", k as u64);
+    p.label("meaning", number_words(k));
+    p.whole("jobs", count);
+    p.end();
 }
 
 // How many jobs have this number of their own, out of the counts by cause: settled are the sound ones and those with a cause that is no number of the run.
 fn number_count(counts: &[u64], k: u8) -> u64
     ensures { result ≡ number_count counts.now k }
 {
-    if k == TOLERANCE {
+    let refused = Refusal::Tolerance.number();
+    if k == refused {
         return 0;
     }
     if k != 0 {
         return word_in(counts, k as usize);
     }
-    let sound = word_in(counts, 0);
-    let refused = std::num::wrapping_add_u64(sound, word_in(counts, TOLERANCE as usize));
-    let behind = std::num::wrapping_add_u64(refused, word_in(counts, BEHIND as usize));
-    std::num::wrapping_add_u64(behind, word_in(counts, REJECTED as usize))
+    word_in(counts, 0)
+        .wrapping_add(word_in(counts, refused as usize))
+        .wrapping_add(word_in(counts, BEHIND as usize))
+        .wrapping_add(word_in(counts, REJECTED as usize))
 }
 
 // Whether number k has a record: a DC run can end with it, or it did come.
@@ -224,141 +182,87 @@ fn shows(k: u8, count: u64) -> bool
     cause::ends_dc(k) | (count != 0)
 }
 
-// Every run that did not settle, by the causes of all jobs.
-pub fn unsettled(
-    out: Stdout,
-    p: Pen,
-    causes: &[u64],
-    places: &[u64],
-    passes: &[u64],
-    jobs: u64,
-    settled: u64,
-) -> Pen {
-    let mut q = unsettled_line(out, p, jobs, settled);
-    for i in 0..jobs {
-        let k = i as usize;
-        let number = number_of(word_in(causes, k));
-        q = run(out, q, i, number, word_in(places, k), word_in(passes, k));
+// Every run that did not settle; for a person, how many they are before them.
+pub fn unsettled(p: &mut Pen, lists: Lists<'_>, jobs: u64, settled: u64) {
+    if p.is_person() {
+        if jobs <= settled {
+            write!(p, "every run settled\n");
+        } else {
+            write!(
+                p,
+                "not settled, and in no value above: {}\n",
+                jobs - settled
+            );
+        }
     }
-    q
+    for job in 0..jobs {
+        let r = lists.run(job);
+        if number_of(r.cause) != 0 {
+            not_settled(p, r);
+        }
+    }
 }
 
-// For a person, how many follow.
-fn unsettled_line(out: Stdout, p: Pen, jobs: u64, settled: u64) -> Pen {
-    if !is_person(p) {
-        return p;
+fn not_settled(p: &mut Pen, r: Run) {
+    p.set_job(r.job);
+    if !p.is_person() {
+        not_settled_record(p, r);
+        return;
     }
-    if jobs <= settled {
-        return text(out, p, b"every run settled\n");
-    }
-    let q = text(out, p, b"not settled, and in no value above: ");
-    text(out, print(out, q, jobs - settled), b"\n")
-}
-
-// A run that did not settle.
-fn run(out: Stdout, p: Pen, job: u64, number: u64, place: u64, passes: u64) -> Pen {
-    if number == 0 {
-        return p;
-    }
-    let k = small(number);
-    let q = at_job(p, job);
-    if is_person(q) {
-        return run_line(out, q, k, place, passes);
-    }
-    not_settled_record(out, q, k, place, passes)
-}
-
-fn run_line(out: Stdout, p: Pen, k: u8, place: u64, passes: u64) -> Pen {
-    let q = text(out, print(out, text(out, p, b"job "), p.job), b": ");
-    let r = cause::named(out, q, k);
+    let k = small(r.cause);
+    write!(p, "job {}: {}", r.job, Cause(k));
     if is_refusal(k) {
-        return text(out, print(out, text(out, r, b", record "), place), b"\n");
+        write!(p, ", record {}\n", r.place);
+    } else {
+        write!(p, ", passes {}\n", r.passes);
     }
-    text(out, print(out, text(out, r, b", passes "), passes), b"\n")
 }
 
-pub fn not_settled_record(out: Stdout, p: Pen, k: u8, place: u64, passes: u64) -> Pen {
-    let q = whole(
-        out,
-        of_job(out, begin(out, p, b"not_settled")),
-        b"number",
-        k as u64,
-    );
-    end(
-        out,
-        whole(
-            out,
-            whole(out, meaning(out, q, k), b"place", place),
-            b"passes",
-            passes,
-        ),
-    )
+pub fn not_settled_record(p: &mut Pen, r: Run) {
+    let k = small(r.cause);
+    p.begin("not_settled");
+    p.of_job();
+    p.whole("number", k as u64);
+    p.label("meaning", number_words(k));
+    p.whole("place", r.place);
+    p.whole("passes", r.passes);
+    p.end();
 }
 
 // For a machine every run, with the chosen unknown, which stands at this place of each vector of n floats.
-pub fn runs(
-    out: Stdout,
-    p: Pen,
-    causes: &[u64],
-    places: &[u64],
-    passes: &[u64],
-    vectors: &[f64],
-    jobs: u64,
-    n: u64,
-    unknown: u64,
-) -> Pen {
-    if is_person(p) {
-        return p;
+pub fn runs(p: &mut Pen, lists: Lists<'_>, vectors: &[f64], jobs: u64, n: u64, unknown: u64) {
+    if p.is_person() {
+        return;
     }
-    let mut q = p;
-    let mut x = unknown as usize;
-    for i in 0..jobs {
-        let k = i as usize;
-        let c = word_in(causes, k);
-        q = run_record(
-            out,
-            at_job(q, i),
-            number_of(c),
-            word_in(passes, k),
-            c,
-            word_in(places, k),
-            float_in(vectors, x),
-        );
-        x = std::num::wrapping_add_usize(x, n as usize);
+    let mut at = unknown as usize;
+    for job in 0..jobs {
+        p.set_job(job);
+        run_record(p, lists.run(job), float_in(vectors, at));
+        at = at.wrapping_add(n as usize);
     }
-    q
 }
 
-pub fn run_record(
-    out: Stdout,
-    p: Pen,
-    number: u64,
-    passes: u64,
-    cause: u64,
-    place: u64,
-    x: f64,
-) -> Pen {
-    let q = whole(out, of_job(out, begin(out, p, b"run")), b"number", number);
-    let r = whole(out, whole(out, q, b"passes", passes), b"cause", cause);
-    end(out, float(out, whole(out, r, b"place", place), b"value", x))
+pub fn run_record(p: &mut Pen, r: Run, x: f64) {
+    p.begin("run");
+    p.of_job();
+    p.whole("number", number_of(r.cause));
+    p.whole("passes", r.passes);
+    p.whole("cause", r.cause);
+    p.whole("place", r.place);
+    p.float("value", x);
+    p.end();
 }
 
 // A job's own number, as it has it by itself: its cause, and 0 where that is no number of the run.
 fn number_of(cause: u64) -> u64
     ensures { result ≡ number_of cause }
 {
-    if cause::is_unsound(cause) {
-        return 0;
-    }
-    cause
+    if cause::is_unsound(cause) { 0 } else { cause }
 }
 
 // n as a byte, and 255 for all that are larger.
 pub fn small(n: u64) -> u8
     ensures { result ≡ min n 255 }
 {
-    if n < 255 {
-        return n as u8;
-    }
-    255
+    n.min(255) as u8
 }

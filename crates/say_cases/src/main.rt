@@ -7,86 +7,81 @@ ghost use Rattle.std.specs.Prelude.{◌≡◌, length};
 use engine::Ending;
 use judge::Judged;
 use num::float_of;
+use numbers::refusal::Refusal;
+use numbers::verdict::Verdict;
 use pen::Pen;
-use say::Switches;
-use std::io::Stdout;
+use say::{JobHead, Lists, Spreads, Switches, Values, Volts};
 use tally::Report;
 
 fn main(rt: HostRuntime) {
-    let out = rt.stdout();
-    all(out, pen::pen_for(true, false));
-    all(out, pen::pen_for(false, true));
-    all(out, pen::pen_for(false, false));
+    for (tsv, json) in [(true, false), (false, true), (false, false)] {
+        all(&mut Pen::new(rt.stdout(), tsv, json));
+    }
 }
 
 // All that can be written with this pen.
-fn all(out: Stdout, p: Pen) {
-    let q = jobs(
-        out,
-        say::file_begun(out, say::call_begun(out, p), b"front end.jobs", false, true),
-    );
-    let r = spreads(
-        out,
-        say::file_begun(out, pen::at_file(q, 1), b"spreads.jobs", true, true),
-    );
-    let s = pen::at_file(r, 18446744073709551615);
-    let t = say::file_begun(out, s, b"\t !\"#%&[\\]~\xc3\xa9", true, true);
-    say::call_ended(out, say::faulted(out, t), 2);
+fn all(p: &mut Pen) {
+    say::call_begun(p);
+    say::file_begun(p, b"front end.jobs", false, true);
+    jobs(p);
+    p.set_file(1);
+    say::file_begun(p, b"spreads.jobs", true, true);
+    spreads(p);
+    p.set_file(u64::MAX);
+    say::file_begun(p, b"\t !\"#%&[\\]~\xc3\xa9", true, true);
+    say::faulted(p);
+    say::call_ended(p, 2);
 }
 
 // A job that is refused, one of DC, and transients with rows and without.
-fn jobs(out: Stdout, p: Pen) -> Pen {
-    let q = say::refused(
-        out,
-        say::heading(
-            out,
-            p,
-            false,
-            9007199254740992,
-            9007199254740993,
-            switches(0, 0),
-        ),
-        8,
-        41,
-    );
-    ended_alone(out, row_after_row(out, vector(out, q)))
+fn jobs(p: &mut Pen) {
+    heading(p, false, 9007199254740992, 9007199254740993, switches(0, 0));
+    say::refused(p, 8, 41);
+    vector(p);
+    row_after_row(p);
+    ended_alone(p);
 }
 
-fn vector(out: Stdout, p: Pen) -> Pen {
-    let x = floats();
-    let q = say::heading(out, pen::at_job(p, 1), false, 2, 14, switches(1, 0));
-    let r = say::behind(
-        out,
-        say::ended(out, q, ending(21, 21, 0.0), false),
-        2,
-        5.0,
-        0.625,
-        false,
-    );
-    say::judged(out, say::vector(out, r, &x, 2, 14), Judged::Rejected(3))
+fn heading(p: &mut Pen, transient: bool, nodes: u64, sources: u64, switches: Switches) {
+    let head = JobHead {
+        transient,
+        nodes,
+        sources,
+        switches,
+    };
+    say::heading(p, head);
 }
 
-fn row_after_row(out: Stdout, p: Pen) -> Pen {
-    let x = floats();
-    let both = switches(18446744073709551615, 9223372036854775808);
-    let q = say::heading(out, pen::at_job(p, 2), true, 2, 1, both);
-    let r = say::behind(
-        out,
-        say::ended(out, q, ending(0, 20, 2.5e-6), true),
-        2,
-        0.0 / 0.0,
-        -0.0,
+fn vector(p: &mut Pen) {
+    p.set_job(1);
+    heading(p, false, 2, 14, switches(1, 0));
+    say::ended(p, ending(Verdict::Diverged, Verdict::Diverged, 0.0), false);
+    say::behind(p, 2, volts(5.0, 0.625), false);
+    say::vector(p, &floats(), 2, 14);
+    say::judged(p, Ok(Judged::Rejected(3)));
+}
+
+fn row_after_row(p: &mut Pen) {
+    p.set_job(2);
+    let both = switches(u64::MAX, 9223372036854775808);
+    heading(p, true, 2, 1, both);
+    say::ended(
+        p,
+        ending(Verdict::Settled, Verdict::PassesUsed, 2.5e-6),
         true,
     );
-    say::judged(out, say::rows(out, r, &x, 4, 3), Judged::Refused(11))
+    say::behind(p, 2, volts(f64::NAN, -0.0), true);
+    say::rows(p, &floats(), 4, 3);
+    say::judged(p, Err(Refusal::Tolerance));
 }
 
 // Rows of a time alone, and one that is not there.
-fn ended_alone(out: Stdout, p: Pen) -> Pen {
-    let x = floats();
-    let q = say::heading(out, pen::at_job(p, 3), true, 2, 1, switches(0, 1));
-    let r = say::rows(out, say::ended(out, q, ending(26, 0, 1.0), true), &x, 17, 0);
-    say::judged(out, r, Judged::Accepted)
+fn ended_alone(p: &mut Pen) {
+    p.set_job(3);
+    heading(p, true, 2, 1, switches(0, 1));
+    say::ended(p, ending(Verdict::SineRefused, Verdict::Settled, 1.0), true);
+    say::rows(p, &floats(), 17, 0);
+    say::judged(p, Ok(Judged::Accepted));
 }
 
 // The options that are on or off, by their words.
@@ -97,7 +92,11 @@ fn switches(catchup: u64, pattern_first: u64) -> Switches {
     }
 }
 
-fn ending(verdict: u8, dc: u8, end: f64) -> Ending {
+fn volts(across: f64, limited: f64) -> Volts {
+    Volts { across, limited }
+}
+
+fn ending(verdict: Verdict, dc: Verdict, end: f64) -> Ending {
     Ending {
         verdict,
         dc,
@@ -109,61 +108,69 @@ fn ending(verdict: u8, dc: u8, end: f64) -> Ending {
 }
 
 // Calls that are refused; one of which no run settled, one of which some did and none is sound, and one with sound runs.
-fn spreads(out: Stdout, p: Pen) -> Pen {
-    let q = say::call_refused(out, say::asked(out, p, 0, 12, 4, 11, 0, switches(0, 0)), 2);
-    let s = switches(1, 18446744073709551615);
-    let r = say::call_refused(out, say::asked(out, q, 257, 12, 4, 15, 16, s), 13);
-    some_sound(out, none_sound(out, none_settled(out, r)))
+fn spreads(p: &mut Pen) {
+    asked(p, 0, 11, 0, switches(0, 0));
+    say::call_refused(p, 2);
+    asked(p, 257, 15, 16, switches(1, u64::MAX));
+    say::call_refused(p, 13);
+    none_settled(p);
+    none_sound(p);
+    some_sound(p);
 }
 
-fn none_settled(out: Stdout, p: Pen) -> Pen {
-    let n = causes();
-    let q = say::asked(out, p, 8, 12, 4, 11, 0, switches(9223372036854775808, 0));
-    let r = say::range(
-        out,
-        say::not_sound_line(out, q, 0, 0),
-        report(0),
-        0.0,
-        report(0),
-        0.0,
-    );
-    say::unsettled(out, r, &n, &n, &n, 8, 0)
+fn asked(p: &mut Pen, jobs: u64, unknown: u64, tolerances: u64, switches: Switches) {
+    let spreads = Spreads {
+        jobs,
+        nodes: 12,
+        sources: 4,
+        unknown,
+        tolerances,
+        switches,
+    };
+    say::asked(p, spreads);
+}
+
+fn none_settled(p: &mut Pen) {
+    asked(p, 8, 11, 0, switches(9223372036854775808, 0));
+    say::not_sound_line(p, 0, 0);
+    say::range(p, values(0, 0.0), values(0, 0.0));
+    say::unsettled(p, lists(&causes()), 8, 0);
 }
 
 // Each cause of a settled run, told of one that has it.
-fn none_sound(out: Stdout, p: Pen) -> Pen {
-    let asked = say::asked(out, p, 3, 12, 4, 11, 16, switches(0, 1));
-    let q = say::not_sound_line(out, asked, 3, 0);
-    let r = say::not_sound(out, q, 0, 27, 2, 4.99998, 0.625);
-    let s = say::not_sound(
-        out,
-        say::not_sound(out, r, 1, 28, 3, 1.0, 1.0),
-        2,
-        11,
-        0,
-        1.0,
-        1.0,
-    );
-    say::range(out, s, report(0), 0.0, report(3), 0.5)
+fn none_sound(p: &mut Pen) {
+    asked(p, 3, 11, 16, switches(0, 1));
+    say::not_sound_line(p, 3, 0);
+    say::not_sound(p, 0, 27, 2, volts(4.99998, 0.625));
+    say::not_sound(p, 1, 28, 3, volts(1.0, 1.0));
+    say::not_sound(p, 2, 11, 0, volts(1.0, 1.0));
+    say::range(p, values(0, 0.0), values(3, 0.5));
 }
 
-fn some_sound(out: Stdout, p: Pen) -> Pen {
-    let q = say::not_sound_line(out, counted(out, p), 2, 2);
-    listed(out, say::range(out, q, report(2), 0.5, report(3), 0.25))
+// With numbers that no DC run has, and with counts and jobs that are not there.
+fn some_sound(p: &mut Pen) {
+    say::counts(p, &counts(), u64::MAX, false);
+    say::counts(p, &[2], 2, true);
+    say::not_sound_line(p, 2, 2);
+    say::range(p, values(2, 0.5), values(3, 0.25));
+    say::unsettled(p, lists(&[0]), 2, 2);
+    say::runs(p, lists(&causes()), &floats(), 9, 3, 1);
 }
 
-// With numbers that no DC run has, and with counts that are not there.
-fn counted(out: Stdout, p: Pen) -> Pen {
-    let c = counts();
-    let q = say::counts(out, p, &c, 18446744073709551615, false);
-    say::counts(out, q, &[2], 2, true)
+// The same list for the causes, their places and the passes.
+fn lists(words: &[u64]) -> Lists<'_> {
+    Lists {
+        causes: words,
+        places: words,
+        passes: words,
+    }
 }
 
-fn listed(out: Stdout, p: Pen) -> Pen {
-    let n = causes();
-    let x = floats();
-    let q = say::unsettled(out, p, &[0], &[0], &[0], 2, 2);
-    say::runs(out, q, &n, &n, &n, &x, 9, 3, 1)
+fn values(settled: u64, mean: f64) -> Values {
+    Values {
+        report: report(settled),
+        mean,
+    }
 }
 
 // A report over so many runs.

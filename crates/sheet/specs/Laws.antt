@@ -5,6 +5,7 @@ pub mod Kind
 pub mod Inside
 pub mod Sharing
 pub mod Clean
+pub mod Ends
 pub mod Right
 pub mod Inductors
 pub mod Cases

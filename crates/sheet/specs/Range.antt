@@ -1,6 +1,6 @@
 -- Refusals 8, 9 and 10: the numbers of an element against the counts of a call. Clients cite nodes_of, sources_of, points_of and element_fault.
-use Rattle.std.specs.Prelude.{ℕ, ◌+◌, Bool, true, false, ◌&&◌, List, [], ◌∷◌, leb, ltb}
-use Rattle.numbers.specs.Refusals.{by_node, by_source, by_pattern}
+use Rattle.std.specs.Prelude.{ℕ, ◌+◌, Bool, true, false, ◌&&◌, List, [], ◌∷◌, leb, ltb, Result, Ok, Err, ⊤}
+use Rattle.numbers.specs.declared.refusal.Refusal.{Refusal}
 use Rattle.num.specs.Lists.{every}
 use Rattle.sheet.specs.declared.NodeId.{NodeId}
 use Rattle.sheet.specs.declared.SourceId.{SourceId}
@@ -68,13 +68,13 @@ sources_fit sources e = every (source_below sources) (sources_of e)
 unfoldable pub points_fit : ℕ → Element → Bool
 points_fit points e = leb (points_of e) points
 
--- of a record's refusals the lowest number: 8, 9, 10, or 0 where its nodes, its source and its points fit
-abbrev pub lowest : (nodes sources points : Bool) → ℕ
-lowest false sources points = by_node
-lowest true false points = by_source
-lowest true true false = by_pattern
-lowest true true true = 0
+-- of a record's refusals the one with the lowest number, 8, 9 or 10; none where its nodes, its source and its points fit
+abbrev pub lowest : (nodes sources points : Bool) → Result ⊤ Refusal
+lowest false sources points = Err Refusal.Node
+lowest true false points = Err Refusal.Source
+lowest true true false = Err Refusal.Pattern
+lowest true true true = Ok tt
 
 -- so of an element, told whether its source number is its own (Sharing)
-unfoldable pub element_fault : Limits → (own : Bool) → Element → ℕ
+unfoldable pub element_fault : Limits → (own : Bool) → Element → Result ⊤ Refusal
 element_fault l own e = lowest (nodes_fit l.nodes e) (own && sources_fit l.sources e) (points_fit l.points e)

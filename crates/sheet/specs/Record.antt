@@ -1,16 +1,18 @@
 -- The element sheet: what stands in a record, and what a record means. Clients cite record_at, kind_at, decode_of and decode_as.
 -- Records of 40 bytes, no header, little-endian. A byte past the end counts as 0.
-use Rattle.std.specs.Prelude.{ℕ, zero, suc, ◌+◌, ◌*◌, Bool, true, false, cond, ◌&&◌, ◌||◌, List, get_or, take, drop, eqb, leb}
+use Rattle.std.specs.Prelude.{ℕ, zero, suc, ◌+◌, ◌*◌, Bool, true, false, cond, ◌&&◌, ◌||◌, List, get_or, take, drop, eqb, leb, Result, Ok, Err}
 use Rattle.numbers.specs.Kinds.{resistor, current, voltage, diode, isin, vsin, vpwl, capacitor, vcvs, vccs, inductor}
-use Rattle.numbers.specs.Refusals.{by_kind, by_unused}
+use Rattle.numbers.specs.declared.refusal.Refusal.{Refusal}
 use Rattle.num.specs.Le.{le16, float_at}
 use Rattle.sheet.specs.declared.NodeId.{NodeId}
 use Rattle.sheet.specs.declared.SourceId.{SourceId}
 use Rattle.sheet.specs.declared.record.Uses.{Uses}
 use Rattle.sheet.specs.declared.Element.{Element}
 use Rattle.sheet.specs.declared.Element.TheVariants.{R, I, «V», D, Isin, Vsin, Vpwl, C, Vcvs, Vccs, L}
-use Rattle.sheet.specs.declared.Decoded.{Decoded}
-use Rattle.sheet.specs.declared.Decoded.TheVariants.{Good, Refused}
+
+-- what a record decodes to: an element, or refusal 6 or 7
+abbrev pub Decoded : Type 0
+Decoded = Result Element Refusal
 
 -- the bytes of a record
 abbrev pub record_bytes : ℕ
@@ -69,18 +71,18 @@ inductor_of r = L (node_at r 2) (node_at r 4) (float_at r 16) (source_at r 10)
 -- the kind byte decides among eleven records; any other kind is refused by 6
 unfoldable pub element_of : ℕ → List ℕ → Decoded
 element_of kind r =
-    cond (eqb kind resistor) (Good (resistor_of r))
-    (cond (eqb kind current) (Good (current_of r))
-    (cond (eqb kind voltage) (Good (voltage_of r))
-    (cond (eqb kind diode) (Good (diode_of r))
-    (cond (eqb kind isin) (Good (isin_of r))
-    (cond (eqb kind vsin) (Good (vsin_of r))
-    (cond (eqb kind vpwl) (Good (vpwl_of r))
-    (cond (eqb kind capacitor) (Good (capacitor_of r))
-    (cond (eqb kind vcvs) (Good (vcvs_of r))
-    (cond (eqb kind vccs) (Good (vccs_of r))
-    (cond (eqb kind inductor) (Good (inductor_of r))
-    (Refused by_kind)))))))))))
+    cond (eqb kind resistor) (Ok (resistor_of r))
+    (cond (eqb kind current) (Ok (current_of r))
+    (cond (eqb kind voltage) (Ok (voltage_of r))
+    (cond (eqb kind diode) (Ok (diode_of r))
+    (cond (eqb kind isin) (Ok (isin_of r))
+    (cond (eqb kind vsin) (Ok (vsin_of r))
+    (cond (eqb kind vpwl) (Ok (vpwl_of r))
+    (cond (eqb kind capacitor) (Ok (capacitor_of r))
+    (cond (eqb kind vcvs) (Ok (vcvs_of r))
+    (cond (eqb kind vccs) (Ok (vccs_of r))
+    (cond (eqb kind inductor) (Ok (inductor_of r))
+    (Err Refusal.Kind)))))))))))
 
 -- what a kind uses besides its two nodes: control nodes, a source number, points, and so many floats
 abbrev pub used : Bool → Bool → Bool → ℕ → Uses
@@ -115,9 +117,9 @@ rest_zero u r =
 
 -- an element whose other bytes are not zero is refused by 7
 abbrev pub if_zero : Bool → Decoded → Decoded
-if_zero rest (Refused k) = Refused k
-if_zero true (Good e) = Good e
-if_zero false (Good e) = Refused by_unused
+if_zero rest (Err k) = Err k
+if_zero true (Ok e) = Ok e
+if_zero false (Ok e) = Err Refusal.Unused
 
 -- what a record means: the element of its kind, or 6, or 7
 unfoldable pub decode_of : List ℕ → Decoded

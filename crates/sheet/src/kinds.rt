@@ -1,4 +1,5 @@
 // The eleven kinds, each read from the bytes of a record: its own numbers and no others.
+// kept: a function for each, where some look alike: each fills the fields of its own variant by name, and a shared one would have to be told them.
 ghost use Rattle.std.specs.Prelude.{◌≡◌};
 ghost use Rattle.sheet.specs.Record.{node_at, source_at, resistor_of, current_of, voltage_of, diode_of, isin_of, vsin_of, vpwl_of, capacitor_of, vcvs_of, vccs_of, inductor_of};
 

@@ -7,22 +7,27 @@ mod range;
 mod record;
 mod sharing;
 
-ghost use Rattle.std.specs.Prelude.{◌≡◌, ◌/◌, ◌≤◌, length};
+ghost use Rattle.std.specs.Prelude.{◌≡◌, ◌/◌, ◌≤◌, ◌<◌, length};
+ghost use Rattle.numbers.specs.Kinds as kinds;
 ghost use Rattle.sheet.specs.Record.{record_at, kind_at, diode_of, decode_of, decode_as};
 ghost use Rattle.sheet.specs.Row.{row_of};
 ghost use Rattle.sheet.specs.Sharing.{inductor_among};
-ghost use Rattle.sheet.specs.Check.{check_of, records_of, record_refusal, number_of, place_of, bad_sheet, bad_points};
+ghost use Rattle.sheet.specs.Check.{check_of, record_fault, records_of, not_whole, bad_sheet, bad_points};
+
+use numbers::kind::Kind;
+use numbers::limit;
+use numbers::refusal::Refusal;
 
 // A node's number; ground is 0.
-#[derive(Clone, Copy)]
+#[derive(Clone, Copy, Debug, PartialEq, Eq, PartialOrd, Ord, Hash)]
 pub struct NodeId(pub u16);
 
 // A source's number, which is no node's.
-#[derive(Clone, Copy)]
+#[derive(Clone, Copy, Debug, PartialEq, Eq, PartialOrd, Ord, Hash)]
 pub struct SourceId(pub u16);
 
 // What a record stands for; each kind carries its own numbers and no others.
-#[derive(Clone, Copy)]
+#[derive(Clone, Copy, Debug, PartialEq)]
 pub enum Element {
     R {
         a: NodeId,
@@ -98,22 +103,15 @@ pub enum Element {
     },
 }
 
-// What a record decodes to: an element, or refusal 6 or 7.
-#[derive(Drop)]
-pub enum Decoded {
-    Good(Element),
-    Refused(u8),
-}
-
-// What a sheet's check finds: nothing, or the first faulty record's lowest refusal of 6 to 10 and its place.
-#[derive(Clone, Copy)]
-pub enum Checked {
-    Clean,
-    Faulty(u8, usize),
+// Why a call or its sheet is refused, and the place of the record that is at fault; 0 where none is.
+#[derive(Clone, Copy, Debug, PartialEq, Eq, Hash)]
+pub struct Fault {
+    pub refusal: Refusal,
+    pub place: usize,
 }
 
 // The counts that an element's numbers are held against: of nodes, of sources, and of points given.
-#[derive(Clone, Copy)]
+#[derive(Clone, Copy, Debug, PartialEq, Eq, Hash)]
 pub struct Limits {
     pub nodes: usize,
     pub sources: usize,
@@ -127,24 +125,21 @@ pub const RECORD: usize = 40;
 pub const POINT: usize = 16;
 
 // The element of a record's bytes, or refusal 6 or 7.
-pub fn decode(bytes: &[u8]) -> Decoded
+pub fn decode(bytes: &[u8]) -> Result<Element, Refusal>
     ensures { result ≡ decode_of bytes.now }
 {
-    decode_as(record::byte_at(bytes, 0), bytes)
+    decode_as(Kind::try_from(record::byte_at(bytes, 0))?, bytes)
 }
 
-// The element of a record's bytes, told their first byte; where that is a constant, the compiler leaves out the other kinds.
-fn decode_as(kind: u8, bytes: &[u8]) -> Decoded
-    ensures { result ≡ decode_as kind bytes.now }
+// The element of a record's bytes, told their kind; where that is a constant, the compiler leaves out the other kinds.
+#[tactic(auto, unfolding(crate::specs::Record::decode_as, crate::specs::Record::element_of))]
+fn decode_as(kind: Kind, bytes: &[u8]) -> Result<Element, Refusal>
+    ensures { result ≡ decode_as (kinds.number_of kind) bytes.now }
 {
-    let d = record::element_of(kind, bytes);
-    let Decoded::Good(_) = d else {
-        return d;
-    };
     if record::rest_zero(record::uses_of(kind), bytes) {
-        d
+        Ok(record::element_of(kind, bytes))
     } else {
-        Decoded::Refused(numbers::refusal::UNUSED)
+        Err(Refusal::Unused)
     }
 }
 
@@ -171,15 +166,15 @@ fn end_at(sheet: &[u8], i: usize) -> &[u8]
 }
 
 // The element of record i, or refusal 6 or 7; past the sheet's end it is 6.
-pub fn element_at(sheet: &[u8], i: usize) -> Decoded
+pub fn element_at(sheet: &[u8], i: usize) -> Result<Element, Refusal>
     ensures { result ≡ decode_of (record_at sheet.now i) }
 {
     decode(record_at(sheet, i))
 }
 
-// Record i decoded as of a kind, for a caller that knows its kind byte already.
-pub fn element_as(sheet: &[u8], i: usize, kind: u8) -> Decoded
-    ensures { result ≡ decode_as kind (record_at sheet.now i) }
+// Record i decoded as of a kind, for a caller that knows its kind already.
+pub fn element_as(sheet: &[u8], i: usize, kind: Kind) -> Result<Element, Refusal>
+    ensures { result ≡ decode_as (kinds.number_of kind) (record_at sheet.now i) }
 {
     decode_as(kind, record_at(sheet, i))
 }
@@ -199,6 +194,7 @@ pub fn diode_at(sheet: &[u8], i: usize) -> Element
 }
 
 // The kind byte of record i, which tells a pass whether it has to decode the record; past the sheet's end it is 0.
+// kept: a byte and no `Kind`: a pass compares it once for each record, and most records are passed by on that.
 pub fn kind_at(sheet: &[u8], i: usize) -> u8
     ensures { result ≡ kind_at sheet.now i }
 {
@@ -212,67 +208,32 @@ pub fn records(sheet: &[u8]) -> usize
     sheet.len() / RECORD
 }
 
-// Whether a record of the sheet has an inductor's kind. It looks at kind bytes alone and cuts no record out: a sheet without any is asked so, and else goes as if there were none.
+// Whether a record of the sheet has an inductor's kind. It looks at kind bytes alone: a sheet without any is asked so, and else goes as if there were none.
 pub fn has_inductors(sheet: &[u8]) -> bool
     ensures { result ≡ inductor_among sheet.now (records_of sheet.now) }
 {
-    let count = records(sheet);
-    let mut found = false;
-    for i in 0..count {
-        found = found | (sheet[RECORD * i] == numbers::kind::INDUCTOR);
-    }
-    found
+    (0..records(sheet)).any(|i| kind_at(sheet, i) == Kind::Inductor.number())
 }
 
-// The first faulty record, with its lowest refusal of 6 to 10, or clean.
-pub fn check_sheet(sheet: &[u8], l: Limits) -> Checked
+// The first faulty record, with its lowest refusal of 6 to 10, if there is one.
+pub fn check_sheet(sheet: &[u8], l: Limits) -> Result<(), Fault>
     ensures { result ≡ check_of sheet.now l }
 {
-    let count = records(sheet);
     let shared = sharing::first_shared(sheet);
-    let mut i = 0;
-    while i < count {
-        let d = element_at(sheet, i);
-        let Decoded::Good(e) = d else {
-            return Checked::Faulty(refusal(d), i);
-        };
-        let fault = range::element_fault(l, i != shared, e);
-        if fault != 0 {
-            return Checked::Faulty(fault, i);
-        }
-        i += 1;
+    for i in 0..records(sheet) {
+        record_fault(record_at(sheet, i), l, i != shared).map_err(|refusal| Fault {
+            refusal,
+            place: i,
+        })?;
     }
-    Checked::Clean
+    Ok(())
 }
 
-// The refusal of a record that did not decode, or 0.
-pub fn refusal(d: Decoded) -> u8
-    ensures { result ≡ record_refusal d }
+// The lowest refusal of a record's bytes, told whether its source number is its own.
+fn record_fault(bytes: &[u8], l: Limits, own: bool) -> Result<(), Refusal>
+    ensures { result ≡ record_fault l own (decode_of bytes.now) }
 {
-    match d {
-        Decoded::Good(_) => 0,
-        Decoded::Refused(k) => k,
-    }
-}
-
-// The refusal of a checked sheet, or 0.
-pub fn number(c: Checked) -> u8
-    ensures { result ≡ number_of c }
-{
-    match c {
-        Checked::Clean => 0,
-        Checked::Faulty(k, _) => k,
-    }
-}
-
-// The place of a checked sheet's first faulty record, or 0.
-pub fn place(c: Checked) -> usize
-    ensures { result ≡ place_of c }
-{
-    match c {
-        Checked::Clean => 0,
-        Checked::Faulty(_, i) => i,
-    }
+    range::element_fault(l, own, decode(bytes)?)
 }
 
 // The row of a source: node count plus source number. Here alone the two kinds of number meet.
@@ -287,15 +248,25 @@ pub fn row_of(nodes: usize, s: SourceId) -> usize
 }
 
 // Whether a sheet of so many bytes is refused by 2.
+#[tactic(auto, unfolding(crate::specs::Check::bad_sheet))]
 pub fn bad_sheet(len: usize) -> bool
     ensures { result ≡ bad_sheet len }
 {
-    (len % RECORD != 0) | (numbers::limit::RECORDS < len / RECORD)
+    not_whole(RECORD, limit::RECORDS, len)
 }
 
 // Whether points of so many bytes are refused by 3.
+#[tactic(auto, unfolding(crate::specs::Check::bad_points))]
 pub fn bad_points(len: usize) -> bool
     ensures { result ≡ bad_points len }
 {
-    (len % POINT != 0) | (numbers::limit::POINTS < len / POINT)
+    not_whole(POINT, limit::POINTS, len)
+}
+
+// Whether bytes are not whole pieces of a size, or more than the most of them.
+fn not_whole(size: usize, most: usize, len: usize) -> bool
+    requires { 0 < size }
+    ensures { result ≡ not_whole size most len }
+{
+    (len % size != 0) | (most < len / size)
 }

@@ -1,12 +1,14 @@
 // One record of a sheet: the element that its kind makes of it, and the bytes that its kind leaves unused.
 // A byte past the record's end reads as 0.
-ghost use Rattle.std.specs.Prelude.{◌≡◌, get_or};
+ghost use Rattle.std.specs.Prelude.{◌≡◌, get_or, Ok};
+ghost use Rattle.numbers.specs.Kinds.{number_of};
 ghost use Rattle.sheet.specs.Record.{element_of, uses_of, rest_zero};
 
-use super::{Decoded, kinds};
+use super::{Element, kinds};
+use numbers::kind::Kind;
 
 // What a kind uses besides its two nodes.
-#[derive(Drop)]
+#[derive(Clone, Copy, Debug, PartialEq, Eq, Hash)]
 pub struct Uses {
     pub controls: bool,
     pub source: bool,
@@ -18,46 +20,44 @@ pub struct Uses {
 pub fn byte_at(bytes: &[u8], at: usize) -> u8
     ensures { result ≡ get_or bytes.now at 0 }
 {
-    if bytes.len() <= at {
-        return 0;
-    }
-    bytes[at]
+    bytes.get(at).copied().unwrap_or(0)
 }
 
-// The element that a kind makes of a record's bytes, or refusal 6.
-pub fn element_of(kind: u8, bytes: &[u8]) -> Decoded
-    ensures { result ≡ element_of kind bytes.now }
+// The element that a kind makes of a record's bytes.
+#[tactic(auto, unfolding(crate::specs::Record::element_of))]
+pub fn element_of(kind: Kind, bytes: &[u8]) -> Element
+    ensures { Ok result ≡ element_of (number_of kind) bytes.now }
 {
     match kind {
-        numbers::kind::RESISTOR => Decoded::Good(kinds::resistor(bytes)),
-        numbers::kind::CURRENT => Decoded::Good(kinds::current(bytes)),
-        numbers::kind::VOLTAGE => Decoded::Good(kinds::voltage(bytes)),
-        numbers::kind::DIODE => Decoded::Good(kinds::diode(bytes)),
-        numbers::kind::ISIN => Decoded::Good(kinds::isin(bytes)),
-        numbers::kind::VSIN => Decoded::Good(kinds::vsin(bytes)),
-        numbers::kind::VPWL => Decoded::Good(kinds::vpwl(bytes)),
-        numbers::kind::CAPACITOR => Decoded::Good(kinds::capacitor(bytes)),
-        numbers::kind::VCVS => Decoded::Good(kinds::vcvs(bytes)),
-        numbers::kind::VCCS => Decoded::Good(kinds::vccs(bytes)),
-        numbers::kind::INDUCTOR => Decoded::Good(kinds::inductor(bytes)),
-        0 | 12..=255 => Decoded::Refused(numbers::refusal::KIND),
+        Kind::Resistor => kinds::resistor(bytes),
+        Kind::Current => kinds::current(bytes),
+        Kind::Voltage => kinds::voltage(bytes),
+        Kind::Diode => kinds::diode(bytes),
+        Kind::Isin => kinds::isin(bytes),
+        Kind::Vsin => kinds::vsin(bytes),
+        Kind::Vpwl => kinds::vpwl(bytes),
+        Kind::Capacitor => kinds::capacitor(bytes),
+        Kind::Vcvs => kinds::vcvs(bytes),
+        Kind::Vccs => kinds::vccs(bytes),
+        Kind::Inductor => kinds::inductor(bytes),
     }
 }
 
 // What a kind uses.
-pub fn uses_of(kind: u8) -> Uses
-    ensures { result ≡ uses_of kind }
+#[tactic(auto, unfolding(crate::specs::Record::uses_of))]
+pub fn uses_of(kind: Kind) -> Uses
+    ensures { result ≡ uses_of (number_of kind) }
 {
     match kind {
-        numbers::kind::VOLTAGE => used(false, true, false, 1),
-        numbers::kind::DIODE => used(false, false, false, 2),
-        numbers::kind::ISIN => used(false, false, false, 3),
-        numbers::kind::VSIN => used(false, true, false, 3),
-        numbers::kind::VPWL => used(false, true, true, 2),
-        numbers::kind::VCVS => used(true, true, false, 1),
-        numbers::kind::VCCS => used(true, false, false, 1),
-        numbers::kind::INDUCTOR => used(false, true, false, 1),
-        _ => used(false, false, false, 1),
+        Kind::Resistor | Kind::Current | Kind::Capacitor => used(false, false, false, 1),
+        Kind::Voltage => used(false, true, false, 1),
+        Kind::Diode => used(false, false, false, 2),
+        Kind::Isin => used(false, false, false, 3),
+        Kind::Vsin => used(false, true, false, 3),
+        Kind::Vpwl => used(false, true, true, 2),
+        Kind::Vcvs => used(true, true, false, 1),
+        Kind::Vccs => used(true, false, false, 1),
+        Kind::Inductor => used(false, true, false, 1),
     }
 }
 

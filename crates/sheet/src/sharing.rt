@@ -5,6 +5,7 @@ ghost use Rattle.sheet.specs.Sharing as sharing;
 ghost use Rattle.sheet.specs.Sharing.{FirstShared};
 
 use super::{record, record_at};
+use numbers::kind::Kind;
 
 // The first record that shares its source number with an earlier one, one of the two an inductor; as many as there are records where none does. The check ends there at the latest.
 pub fn first_shared(sheet: &[u8]) -> usize
@@ -21,14 +22,7 @@ pub fn first_shared(sheet: &[u8]) -> usize
 fn first_from(sheet: &[u8], count: usize) -> usize
     ensures { FirstShared sheet.now count result }
 {
-    let mut i = 0;
-    while i < count {
-        if !alone(sheet, i) {
-            return i;
-        }
-        i += 1;
-    }
-    count
+    (0..count).find(|&i| !alone(sheet, i)).unwrap_or(count)
 }
 
 // Whether record i shares its source number with no earlier record; a record without a source number is held against none.
@@ -36,17 +30,7 @@ fn alone(sheet: &[u8], i: usize) -> bool
     ensures { result ≡ sharing.alone sheet.now i }
 {
     let own = record_at(sheet, i);
-    if !has_source(own) {
-        return true;
-    }
-    let mut k = i;
-    while 0 < k {
-        k -= 1;
-        if shares(record_at(sheet, k), own) {
-            return false;
-        }
-    }
-    true
+    !has_source(own) || !(0..i).any(|k| shares(record_at(sheet, k), own))
 }
 
 // Whether two records share a source number and one of them is an inductor.
@@ -62,13 +46,12 @@ fn shares(r: &[u8], q: &[u8]) -> bool
 fn is_inductor(bytes: &[u8]) -> bool
     ensures { result ≡ sharing.is_inductor bytes.now }
 {
-    record::byte_at(bytes, 0) == numbers::kind::INDUCTOR
+    record::byte_at(bytes, 0) == Kind::Inductor.number()
 }
 
 // Whether a record's kind has a source number.
 fn has_source(bytes: &[u8]) -> bool
     ensures { result ≡ sharing.has_source bytes.now }
 {
-    let u = record::uses_of(record::byte_at(bytes, 0));
-    u.source
+    Kind::try_from(record::byte_at(bytes, 0)).is_ok_and(|k| record::uses_of(k).source)
 }

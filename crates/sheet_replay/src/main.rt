@@ -4,17 +4,18 @@
 
 ghost use Rattle.std.specs.Prelude.{◌≡◌, ◌≤◌, length};
 
-use sheet::Limits;
+use numbers::refusal::Refusal;
+use sheet::{Fault, Limits};
 
 // A refusal and its place, or 0 and 0.
-#[derive(Drop)]
+#[derive(Clone, Copy, Debug, PartialEq, Eq)]
 struct Answer {
     number: u64,
     place: u64,
 }
 
 // Whether a job agrees with its stored answer, and the bytes that it takes in the file.
-#[derive(Drop)]
+#[derive(Clone, Copy, Debug, PartialEq, Eq)]
 struct Replayed {
     agrees: bool,
     bytes: usize,
@@ -46,7 +47,7 @@ fn replay<P: Print>(rt: &P, file: &[u8]) {
     for k in 0..jobs {
         let one = replay_one(rt, &file[at..], k);
         if !one.agrees {
-            wrong = std::num::wrapping_add_u64(wrong, 1);
+            wrong = wrong.wrapping_add(1);
         }
         at += one.bytes;
     }
@@ -69,7 +70,7 @@ fn replay_one<P: Print>(rt: &P, job: &[u8], k: u32) -> Replayed
         number: num::u32_at(job, 16) as u64,
         place: num::u32_at(job, 20) as u64,
     };
-    let agrees = (got.number == wanted.number) & (got.place == wanted.place);
+    let agrees = got == wanted;
     if !agrees {
         report(rt, k, got, wanted);
     }
@@ -81,29 +82,39 @@ fn replay_one<P: Print>(rt: &P, job: &[u8], k: u32) -> Replayed
 
 // Refusals 2, 3 and 6 to 10 in their order, for a sheet under the counts of its job's header.
 fn answer_of(sheet: &[u8], job: &[u8]) -> Answer {
+    match checked(sheet, job) {
+        Ok(()) => Answer {
+            number: 0,
+            place: 0,
+        },
+        Err(f) => Answer {
+            number: f.refusal.number() as u64,
+            place: f.place as u64,
+        },
+    }
+}
+
+// The first of these refusals with its place, if there is one.
+fn checked(sheet: &[u8], job: &[u8]) -> Result<(), Fault> {
     let points = num::u32_at(job, 12) as usize;
     if sheet::bad_sheet(sheet.len()) {
-        return Answer {
-            number: 2,
+        return Err(Fault {
+            refusal: Refusal::Sheet,
             place: 0,
-        };
+        });
     }
     if sheet::bad_points(points) {
-        return Answer {
-            number: 3,
+        return Err(Fault {
+            refusal: Refusal::Points,
             place: 0,
-        };
+        });
     }
     let l = Limits {
         nodes: num::u32_at(job, 4) as usize,
         sources: num::u32_at(job, 8) as usize,
-        points: points / 16,
+        points: points / sheet::POINT,
     };
-    let c = sheet::check_sheet(sheet, l);
-    Answer {
-        number: sheet::number(c) as u64,
-        place: sheet::place(c) as u64,
-    }
+    sheet::check_sheet(sheet, l)
 }
 
 // Writes a sheet that differs.

@@ -1,5 +1,5 @@
--- What the arguments of a call ask for, one after the other. Clients cite nothing_asked, after_of, all_asked and fault_of. There is no record update in antt, so that each change names all fields, once, here.
-use Rattle.std.specs.Prelude.{ℕ, ◌+◌, Bool, true, false, cond, not, ◌&&◌, ◌||◌, List, [], ◌∷◌, eqb, ltb}
+-- What the arguments of a call ask for, one after the other. Clients cite nothing_asked, after_of, all_asked and fault_of.
+use Rattle.std.specs.Prelude.{ℕ, ◌+◌, Bool, true, false, cond, not, ◌&&◌, ◌||◌, List, [], ◌∷◌, eqb, min, Option, None, Some, is_some}
 use Rattle.shell.specs.declared.word.Word.{Word}
 use Rattle.shell.specs.declared.word.Word.TheVariants.{Spreads, Strict, Tsv, Json, StatusFd, Unknown, File}
 use Rattle.shell.specs.declared.asked.Asked.{Asked}
@@ -10,40 +10,36 @@ use Rattle.shell.specs.Words.{word_of, digit_of}
 -- ---- small changes
 
 abbrev pub nothing_asked : Asked
-nothing_asked = record { tsv = false; json = false; strict = false; fd = 0; files = 0; spreads = false; descriptor = false; fault = Wrong.Nothing }
+nothing_asked = record { tsv = false; json = false; strict = false; fd = None; files = 0; spreads = false; descriptor = false; fault = None }
 
 abbrev pub with_fault : Fault → Asked → Asked
-with_fault f a = record { tsv = a.tsv; json = a.json; strict = a.strict; fd = a.fd; files = a.files; spreads = a.spreads; descriptor = a.descriptor; fault = f }
+with_fault f a = record a { fault = Some f }
 
 abbrev pub with_forms : Bool → Bool → Asked → Asked
-with_forms t j a = record { tsv = t; json = j; strict = a.strict; fd = a.fd; files = a.files; spreads = a.spreads; descriptor = a.descriptor; fault = a.fault }
+with_forms t j a = record a { tsv = t; json = j }
 
 abbrev pub with_strict : Asked → Asked
-with_strict a = record { tsv = a.tsv; json = a.json; strict = true; fd = a.fd; files = a.files; spreads = a.spreads; descriptor = a.descriptor; fault = a.fault }
+with_strict a = record a { strict = true }
 
-abbrev pub with_descriptor : ℕ → Bool → Asked → Asked
-with_descriptor fd wanted a = record { tsv = a.tsv; json = a.json; strict = a.strict; fd = fd; files = a.files; spreads = a.spreads; descriptor = wanted; fault = a.fault }
+abbrev pub with_descriptor : Option ℕ → Bool → Asked → Asked
+with_descriptor fd wanted a = record a { fd = fd; descriptor = wanted }
 
 abbrev pub with_files : ℕ → Bool → Asked → Asked
-with_files n spreads a = record { tsv = a.tsv; json = a.json; strict = a.strict; fd = a.fd; files = n; spreads = spreads; descriptor = a.descriptor; fault = a.fault }
+with_files n spreads a = record a { files = n; spreads = spreads }
 
-abbrev pub faulty : Fault → Bool
-faulty Wrong.Nothing = false
-faulty Wrong.Option = true
-faulty Wrong.Forms = true
-faulty Wrong.Descriptor = true
-faulty Wrong.Spreads = true
-faulty Wrong.File = true
+abbrev pub faulty : Option Fault → Bool
+faulty = is_some
 
 -- ---- one argument more
 
--- the argument after `--status-fd`: a digit from 3 to 9, told as 0 where it is none
-abbrev pub described_of : Asked → ℕ → Asked
-described_of a digit = cond (eqb digit 0) (with_fault Wrong.Descriptor a) (with_descriptor digit false a)
+-- the argument after `--status-fd`: a digit from 3 to 9
+abbrev pub described_of : Asked → Option ℕ → Asked
+described_of a None = with_fault Wrong.Descriptor a
+described_of a (Some d) = with_descriptor (Some d) false a
 
 -- a file; no list of arguments is so long that the count would stand still
 abbrev pub named_of : Asked → Asked
-named_of a = with_files (cond (ltb a.files 18446744073709551615) (a.files + 1) a.files) false a
+named_of a = with_files (min (a.files + 1) 18446744073709551615) false a
 
 -- the word `spreads` or, right after it, a file of that name
 abbrev pub spreads_of : Asked → Asked
@@ -64,7 +60,7 @@ took_of a Unknown = with_fault Wrong.Option a
 took_of a File = named_of a
 
 -- what is wrong stays wrong; a descriptor that is wanted comes before all else that an argument can be
-unfoldable pub after_of : Asked → Word → ℕ → Asked
+unfoldable pub after_of : Asked → Word → Option ℕ → Asked
 after_of a w digit = cond (faulty a.fault) a (cond a.descriptor (described_of a digit) (took_of a w))
 
 -- ---- all arguments
@@ -74,10 +70,10 @@ all_asked a [] = a
 all_asked a (s ∷ ss) = all_asked (after_of a (word_of s) (digit_of s)) ss
 
 -- what is wrong, after the last
-abbrev pub fault_of : Asked → Fault
+abbrev pub fault_of : Asked → Option Fault
 fault_of a =
     cond (faulty a.fault) a.fault
-    (cond a.descriptor Wrong.Descriptor
-    (cond a.spreads Wrong.Spreads
-    (cond (eqb a.files 0) Wrong.File
-    Wrong.Nothing)))
+    (cond a.descriptor (Some Wrong.Descriptor)
+    (cond a.spreads (Some Wrong.Spreads)
+    (cond (eqb a.files 0) (Some Wrong.File)
+    None)))

@@ -1,8 +1,9 @@
 -- What is seen of the runs of a call, and the status. Clients cite sound_seen, fault_seen, fault_if, both_seen, all_seen, job_seen, judged_seen, spreads_seen and status_of.
-use Rattle.std.specs.Prelude.{ℕ, Bool, true, false, cond, not, ◌&&◌, ◌||◌, List, [], ◌∷◌, eqb}
-use Rattle.numbers.specs.Verdicts.{settled}
+use Rattle.std.specs.Prelude.{ℕ, Bool, true, false, cond, not, ◌&&◌, ◌||◌, List, [], ◌∷◌, eqb, Result, Ok, Err}
+use Rattle.numbers.specs.Verdicts.{settled, number_of}
 use Rattle.engine.specs.declared.Outcome.{Outcome}
 use Rattle.engine.specs.declared.Outcome.TheVariants as Run
+use Rattle.numbers.specs.declared.refusal.Refusal.{Refusal}
 use Rattle.judge.specs.declared.Judged.{Judged}
 use Rattle.judge.specs.declared.Judged.TheVariants as Judge
 use Rattle.sound.specs.declared.Soundings.{Soundings}
@@ -32,13 +33,13 @@ all_seen (s ∷ ss) = both_seen s (all_seen ss)
 -- "doubtful if it was refused, ended with another verdict than 0, had a DC verdict other than 0 before its transient, has a diode behind"
 abbrev pub job_seen : Outcome → Seen
 job_seen (Run.Refused k i) = doubted_seen true
-job_seen (Run.Ended e) = doubted_seen ((not (eqb e.verdict settled) || not (eqb e.dc settled)) || not (eqb e.behind 0))
+job_seen (Run.Ended e) = doubted_seen ((not (eqb (number_of e.verdict) settled) || not (eqb (number_of e.dc) settled)) || not (eqb e.behind 0))
 
 -- "or was not accepted by the judge that it asked for"
-abbrev pub judged_seen : Judged → Seen
-judged_seen Judge.Accepted = doubted_seen false
-judged_seen (Judge.Rejected i) = doubted_seen true
-judged_seen (Judge.Refused k) = doubted_seen true
+abbrev pub judged_seen : Result Judged Refusal → Seen
+judged_seen (Ok Judge.Accepted) = doubted_seen false
+judged_seen (Ok (Judge.Rejected i)) = doubted_seen true
+judged_seen (Err k) = doubted_seen true
 
 -- a whole call that is refused is at fault; one that is done is doubtful "if not every job is sound"
 abbrev pub spreads_seen : Soundings → ℕ → Seen

@@ -1,5 +1,5 @@
 -- What an argument of the program is. Clients cite bytes, same_bytes, word_of and digit_of.
-use Rattle.std.specs.Prelude.{ℕ, zero, suc, ◌+◌, ◌-◌, Bool, true, false, cond, not, ◌&&◌, List, [], ◌∷◌, eqb, ltb, get_or, length}
+use Rattle.std.specs.Prelude.{ℕ, zero, suc, ◌+◌, ◌-◌, Bool, cond, not, List, [], ◌∷◌, bytes_eq, eqb, ltb, get_or, length, Option, None, Some}
 use Prim.Native.String.{String, len, char_at}
 use Prim.Native.Char.{code}
 use Rattle.shell.specs.declared.word.Word.{Word}
@@ -16,10 +16,7 @@ bytes s = codes s 0 (len s)
 
 -- byte for byte
 abbrev pub same_bytes : List ℕ → List ℕ → Bool
-same_bytes [] [] = true
-same_bytes [] (y ∷ ys) = false
-same_bytes (x ∷ xs) [] = false
-same_bytes (x ∷ xs) (y ∷ ys) = eqb x y && same_bytes xs ys
+same_bytes = bytes_eq
 
 -- the word `spreads`, an option by its name, an option that there is not, which is all else that begins with a minus sign, or a file
 unfoldable pub word_of : List ℕ → Word
@@ -32,10 +29,10 @@ word_of s =
     (cond (eqb (get_or s 0 0) (code "-")) Unknown
     File)))))
 
--- the descriptor for the status: a digit from 3 to 9, and 0 for anything else
-abbrev pub digit_of : List ℕ → ℕ
+-- the descriptor for the status: a digit from 3 to 9, and none in anything else
+abbrev pub digit_of : List ℕ → Option ℕ
 digit_of s =
-    cond (not (eqb (length s) 1)) 0
-    (cond (ltb (get_or s 0 0) (code "3")) 0
-    (cond (ltb (code "9") (get_or s 0 0)) 0
-    (get_or s 0 0 - code "0")))
+    cond (not (eqb (length s) 1)) None
+    (cond (ltb (get_or s 0 0) (code "3")) None
+    (cond (ltb (code "9") (get_or s 0 0)) None
+    (Some (get_or s 0 0 - code "0"))))

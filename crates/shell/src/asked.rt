@@ -1,26 +1,24 @@
 // All arguments together: taken one after the other, and what is wrong with them. An argument at fault makes the whole call one, so that nothing runs on half of what was meant.
 ghost use Rattle.std.specs.Prelude.{◌≡◌};
-ghost use Rattle.shell.specs.Asked.{nothing_asked, faulty, with_fault, described_of, spreads_of, form_of, named_of, after_of, fault_of};
 
 use super::word::Word;
 
 // What was asked for so far.
-#[derive(Clone, Copy)]
+#[derive(Clone, Copy, Debug, PartialEq, Eq)]
 pub struct Asked {
     pub tsv: bool,
     pub json: bool,
     pub strict: bool,
-    pub fd: u8, // the descriptor for the status, 0 for none
+    pub fd: Option<u8>, // the descriptor for the status
     pub files: u64, // how many are named
     pub spreads: bool, // the next file is one of spreads
     pub descriptor: bool, // the next argument is a descriptor
-    pub fault: Fault,
+    pub fault: Option<Fault>,
 }
 
 // What is wrong with the arguments.
-#[derive(Clone, Copy)]
+#[derive(Clone, Copy, Debug, PartialEq, Eq)]
 pub enum Fault {
-    Nothing,
     // an option that there is not
     Option,
     // both forms for a machine
@@ -33,149 +31,132 @@ pub enum Fault {
     File,
 }
 
-// No argument yet.
-pub fn nothing() -> Asked
-    ensures { result ≡ nothing_asked }
-{
-    Asked {
-        tsv: false,
-        json: false,
-        strict: false,
-        fd: 0,
-        files: 0,
-        spreads: false,
-        descriptor: false,
-        fault: Fault::Nothing,
-    }
-}
+impl Asked {
+    ghost use Rattle.shell.specs.Asked.{nothing_asked, faulty, with_fault, described_of, spreads_of, form_of, named_of, after_of, fault_of};
 
-// One argument more: what it is, and the descriptor that it names if it is one.
-pub fn after(a: Asked, w: Word, digit: u8) -> Asked
-    ensures { result ≡ after_of a w digit }
-{
-    if is_faulty(a) {
-        return a;
-    }
-    if a.descriptor {
-        return described(a, digit);
-    }
-    match w {
-        Word::Spreads => of_spreads(a),
-        Word::Strict => {
-            let mut b = a;
-            b.strict = true;
-            b
+    // No argument yet.
+    pub fn nothing() -> Asked
+        ensures { result ≡ nothing_asked }
+    {
+        Asked {
+            tsv: false,
+            json: false,
+            strict: false,
+            fd: None,
+            files: 0,
+            spreads: false,
+            descriptor: false,
+            fault: None,
         }
-        Word::Tsv => in_form(a, true),
-        Word::Json => in_form(a, false),
-        Word::StatusFd => {
-            let mut b = a;
-            b.descriptor = true;
-            b
+    }
+
+    // One argument more: what it is, and the descriptor that it names if it is one.
+    pub fn after(self, w: Word, digit: Option<u8>) -> Asked
+        ensures { result ≡ after_of self w digit }
+    {
+        if self.is_faulty() {
+            return self;
         }
-        Word::Unknown => with_fault(a, Fault::Option),
-        Word::File => named(a),
+        if self.descriptor {
+            return self.described(digit);
+        }
+        match w {
+            Word::Spreads => self.of_spreads(),
+            Word::Strict => Asked {
+                strict: true,
+                ..self
+            },
+            Word::Tsv => self.in_form(true),
+            Word::Json => self.in_form(false),
+            Word::StatusFd => Asked {
+                descriptor: true,
+                ..self
+            },
+            Word::Unknown => self.with_fault(Fault::Option),
+            Word::File => self.named(),
+        }
     }
-}
 
-// What is wrong, after the last argument.
-pub fn fault_of(a: Asked) -> Fault
-    ensures { result ≡ fault_of a }
-{
-    if is_faulty(a) {
-        let f = a.fault;
-        return f;
+    // What is wrong, after the last argument.
+    pub fn fault_of(&self) -> Option<Fault>
+        ensures { result ≡ fault_of self.now }
+    {
+        if self.is_faulty() {
+            self.fault
+        } else if self.descriptor {
+            Some(Fault::Descriptor)
+        } else if self.spreads {
+            Some(Fault::Spreads)
+        } else if self.files == 0 {
+            Some(Fault::File)
+        } else {
+            None
+        }
     }
-    if a.descriptor {
-        return Fault::Descriptor;
-    }
-    if a.spreads {
-        return Fault::Spreads;
-    }
-    if a.files == 0 {
-        return Fault::File;
-    }
-    Fault::Nothing
-}
 
-// Whether something is wrong already.
-pub fn is_faulty(a: Asked) -> bool
-    ensures { result ≡ faulty a.fault }
-{
-    let f = a.fault;
-    match f {
-        Fault::Nothing => false,
-        Fault::Option => true,
-        Fault::Forms => true,
-        Fault::Descriptor => true,
-        Fault::Spreads => true,
-        Fault::File => true,
+    // Whether something is wrong already.
+    pub fn is_faulty(&self) -> bool
+        ensures { result ≡ faulty self.now.fault }
+    {
+        self.fault.is_some()
     }
-}
 
-fn with_fault(a: Asked, fault: Fault) -> Asked
-    ensures { result ≡ with_fault fault a }
-{
-    Asked {
-        tsv: a.tsv,
-        json: a.json,
-        strict: a.strict,
-        fd: a.fd,
-        files: a.files,
-        spreads: a.spreads,
-        descriptor: a.descriptor,
-        fault,
+    fn with_fault(self, fault: Fault) -> Asked
+        ensures { result ≡ with_fault fault self }
+    {
+        Asked {
+            fault: Some(fault),
+            ..self
+        }
     }
-}
 
-// The argument after `--status-fd`.
-fn described(a: Asked, digit: u8) -> Asked
-    ensures { result ≡ described_of a digit }
-{
-    if digit == 0 {
-        return with_fault(a, Fault::Descriptor);
+    // The argument after `--status-fd`.
+    fn described(self, digit: Option<u8>) -> Asked
+        ensures { result ≡ described_of self digit }
+    {
+        match digit {
+            None => self.with_fault(Fault::Descriptor),
+            Some(_) => Asked {
+                fd: digit,
+                descriptor: false,
+                ..self
+            },
+        }
     }
-    let mut b = a;
-    b.fd = digit;
-    b.descriptor = false;
-    b
-}
 
-// The word `spreads`, or, right after it, a file of that name.
-fn of_spreads(a: Asked) -> Asked
-    ensures { result ≡ spreads_of a }
-{
-    if a.spreads {
-        return named(a);
+    // The word `spreads`, or, right after it, a file of that name.
+    fn of_spreads(self) -> Asked
+        ensures { result ≡ spreads_of self }
+    {
+        if self.spreads {
+            return self.named();
+        }
+        Asked {
+            spreads: true,
+            ..self
+        }
     }
-    let mut b = a;
-    b.spreads = true;
-    b
-}
 
-// A form for a machine, and there is one at most.
-fn in_form(a: Asked, tsv: bool) -> Asked
-    ensures { result ≡ form_of a tsv }
-{
-    let t = tsv | a.tsv;
-    let j = !tsv | a.json;
-    if t & j {
-        return with_fault(a, Fault::Forms);
+    // A form for a machine, and there is one at most.
+    fn in_form(self, tsv: bool) -> Asked
+        ensures { result ≡ form_of self tsv }
+    {
+        let json = !tsv | self.json;
+        let tsv = tsv | self.tsv;
+        if tsv & json {
+            return self.with_fault(Fault::Forms);
+        }
+        Asked { tsv, json, ..self }
     }
-    let mut b = a;
-    b.tsv = t;
-    b.json = j;
-    b
-}
 
-// One file more.
-fn named(a: Asked) -> Asked
-    ensures { result ≡ named_of a }
-{
-    let mut b = a;
-    b.spreads = false;
-    if a.files < u64::MAX {
-        b.files = a.files + 1;
+    // One file more.
+    fn named(self) -> Asked
+        ensures { result ≡ named_of self }
+    {
+        Asked {
+            spreads: false,
+            files: self.files.saturating_add(1),
+            ..self
+        }
     }
-    b
 }

@@ -6,8 +6,6 @@ mod asked; // asked.rt: all arguments together
 mod seen; // seen.rt: what is seen of the runs, and the status
 mod word; // word.rt: an argument by itself
 
-pub use asked::{Asked, Fault, after, fault_of, is_faulty, nothing};
-pub use seen::{
-    Seen, at_fault, both, fault_if, job_seen, judged_seen, sound, spreads_seen, status,
-};
-pub use word::{Word, digit, word_of};
+pub use asked::{Asked, Fault};
+pub use seen::Seen;
+pub use word::{Word, digit};

@@ -1,8 +1,8 @@
 // An argument by itself: the word `spreads`, an option, or the name of a file.
-ghost use Rattle.std.specs.Prelude.{◌≡◌, get_or};
-ghost use Rattle.shell.specs.Words.{same_bytes, word_of, digit_of};
+ghost use Rattle.std.specs.Prelude.{◌≡◌};
+ghost use Rattle.shell.specs.Words.{digit_of};
 
-#[derive(Drop)]
+#[derive(Clone, Copy, Debug, PartialEq, Eq)]
 pub enum Word {
     // the next file is one of spreads
     Spreads,
@@ -20,69 +20,37 @@ pub enum Word {
     File,
 }
 
-// What this argument is.
-pub fn word_of(s: &[u8]) -> Word
-    ensures { result ≡ word_of s.now }
-{
-    if same(s, b"spreads") {
-        return Word::Spreads;
-    }
-    if same(s, b"--strict") {
-        return Word::Strict;
-    }
-    if same(s, b"--tsv") {
-        return Word::Tsv;
-    }
-    if same(s, b"--json") {
-        return Word::Json;
-    }
-    if same(s, b"--status-fd") {
-        return Word::StatusFd;
-    }
-    if first(s) == b'-' {
-        return Word::Unknown;
-    }
-    Word::File
-}
+impl Word {
+    ghost use Rattle.shell.specs.Words.{word_of};
 
-// The descriptor that this argument names: a digit from 3 to 9, and 0 for anything else.
-pub fn digit(s: &[u8]) -> u8
-    ensures { result ≡ digit_of s.now }
-{
-    if s.len() != 1 {
-        return 0;
-    }
-    let c = first(s);
-    if c < b'3' {
-        return 0;
-    }
-    if b'9' < c {
-        return 0;
-    }
-    c - b'0'
-}
-
-// The first byte, and 0 where there is none.
-fn first(s: &[u8]) -> u8
-    ensures { result ≡ get_or s.now 0 0 }
-{
-    if s.len() == 0 {
-        return 0;
-    }
-    s[0]
-}
-
-// Whether two texts are the same, byte for byte.
-fn same(s: &[u8], t: &[u8]) -> bool
-    ensures { result ≡ same_bytes s.now t.now }
-{
-    if s.len() != t.len() {
-        return false;
-    }
-    for i in 0..s.len() {
-        if s[i] != t[i] {
-            return false;
+    // What this argument is.
+    pub fn of(s: &[u8]) -> Word
+        ensures { result ≡ word_of s.now }
+    {
+        if s == b"spreads".as_slice() {
+            Word::Spreads
+        } else if s == b"--strict".as_slice() {
+            Word::Strict
+        } else if s == b"--tsv".as_slice() {
+            Word::Tsv
+        } else if s == b"--json".as_slice() {
+            Word::Json
+        } else if s == b"--status-fd".as_slice() {
+            Word::StatusFd
+        } else if s.starts_with(b"-") {
+            Word::Unknown
+        } else {
+            Word::File
         }
     }
-    true
+}
+
+// The descriptor that this argument names: a digit from 3 to 9.
+pub fn digit(s: &[u8]) -> Option<u8>
+    ensures { result ≡ digit_of s.now }
+{
+    match s {
+        [c @ b'3'..=b'9'] => Some(*c - b'0'),
+        _ => None,
+    }
 }

@@ -3,13 +3,13 @@
 // says all that such a caller needs to know of the engine.
 #![tactic(auto)]
 
-ghost use Rattle.std.specs.Prelude.{◌≡◌, []};
+ghost use Rattle.std.specs.Prelude.{◌≡◌, false, []};
 ghost use Rattle.machine.specs.State.{buffers_of};
-ghost use Rattle.engine.specs.Engine.{Scratched};
-ghost use Rattle.single.specs.Single.{mark_of, dc_call, marked_of, marked_run};
+ghost use Rattle.engine.specs.Engine.{call_in, Scratched};
+ghost use Rattle.single.specs.Single.{mark_of, marked_of, marked_run};
 
+pub use engine::Input;
 use engine::Outcome;
-use options::Options;
 
 // What is written down for a job: its verdict or its refusal, the faulty record's place, and the passes solved; and the first diode that is behind in its vector, 0 for none, else 1 and the record's place.
 #[derive(Clone, Copy)]
@@ -22,11 +22,7 @@ pub struct Mark {
 
 // One job, with fresh memory. A job that is refused leaves zeros in its vector and its system.
 pub fn run_alone(
-    sheet: &[u8],
-    points: &[u8],
-    nodes: usize,
-    sources: usize,
-    o: Options,
+    i: Input,
     base: &mut [f64],
     system: &mut [f64],
     elimination: &mut [f64],
@@ -34,27 +30,13 @@ pub fn run_alone(
     vector: &mut [f64],
 ) -> Mark
     ensures all { marked_of result (buffers_of base.new system.new vector.new memory.new [])
-        ≡ marked_run (dc_call o nodes sources sheet.now points.now
-        base.old system.old elimination.old vector.old memory.old) }
-    ensures scratch { Scratched (dc_call o nodes sources sheet.now points.now
-        base.old system.old elimination.old vector.old memory.old)
-        elimination.new }
+        ≡ marked_run (call_in i.entry false elimination.old (buffers_of base.old system.old vector.old memory.old [])) }
+    ensures scratch { Scratched (call_in i.entry false elimination.old (buffers_of base.old system.old vector.old memory.old [])) elimination.new }
 {
-    loops::fill(memory, 0.0);
-    loops::fill(vector, 0.0);
-    loops::fill(system, 0.0);
-    let r = engine::dc_operating_point(
-        sheet,
-        points,
-        nodes,
-        sources,
-        o,
-        base,
-        system,
-        elimination,
-        vector,
-        memory,
-    );
+    memory.fill(0.0);
+    vector.fill(0.0);
+    system.fill(0.0);
+    let r = engine::dc_operating_point(i, base, system, elimination, vector, memory);
     marked(r)
 }
 
@@ -70,7 +52,7 @@ fn marked(r: Outcome) -> Mark
             behind: 0,
         },
         Outcome::Ended(e) => Mark {
-            number: e.verdict as u64,
+            number: e.verdict.number() as u64,
             place: 0,
             passes: e.passes,
             behind: e.behind,

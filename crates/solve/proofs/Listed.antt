@@ -6,7 +6,8 @@ use mathlib.Core.List.{List}
 use Prim.Native.Nat.{ℕ, ◌+◌, ◌-◌, ◌*◌, ◌<◌, ◌≤◌}
 use native.Mathlib.Numerals.{add-one}
 use native.Mathlib.Omega.{arith}
-use lib.ListN.{length, get_or, set}
+use lib.ListN.{length, get_or, set, take}
+use Rattle.std.proofs.lemmas.List.{get_or-take, length-take-le}
 use lib.Seq.{get_or-set_same, get_or-set_other}
 use lib.Ieee.{Float, eq}
 use Rattle.num.specs.Floats.{nought}
@@ -14,7 +15,7 @@ use Rattle.loops.specs.Loop.{turns}
 use Rattle.loops.specs.Laws.Loop.{turns_ext, turns_idle, three}
 use Rattle.num.specs.Lists.{«at»}
 use Rattle.solve.specs.Solve.{row_start, index_of_next_abs, swapped, reduced, clear_one, cleared, column}
-use Rattle.solve.specs.Inner.{Lists, clear_listed}
+use Rattle.solve.specs.Inner.{Rows, Lists, clear_listed}
 use Rattle.solve.specs.Laws.Entries.{row_end, Swap, swap_apart, swap_same, Clear, clear_turns}
 use Rattle.solve.proofs.Search.{never}
 
@@ -49,6 +50,18 @@ module _ (n k : ℕ) (list : List ℕ) (m : List Float) where
         let at_r : get_or longer c 0 ≡ k + 1 + d = get_or-set_same list c r 0 cl ∙ omega arith in
         let e : r + 1 - (k + 1) ≡ d + 1 = omega arith in
         rw (add-one c, e, add-one d) (ap (f c) (old ∙ h t l (λ q a b. z q a (omega arith))) ∙ ap (λ (q : ℕ). reduced (row_start n k + k) (row_start n q + k) (n + 1 - k) (turns d (clear_one (row_start n) n k) t)) at_r)
+
+-- the first c numbers of a list, as a list of their own
+pub cut : (n k c : ℕ) (list : List ℕ) (t : List Float) → c ≤ length list → turns (length (take c list)) (clear_listed n k (take c list)) t ≡ turns c (clear_listed n k list) t
+cut n k c list t h =
+    rw (length-take-le c list h)
+    (turns_ext (clear_listed n k (take c list)) (clear_listed n k list) c t
+    (λ i l x. ap (λ (q : ℕ). reduced (row_start n k + k) (row_start n q + k) (n + 1 - k) x) (get_or-take c list i 0 l)))
+
+pub cut_rows : (n c : ℕ) (list : List ℕ) → c ≤ length list → Rows n c list → Rows n (length (take c list)) (take c list)
+cut_rows n c list h f i l =
+    let g : i < c = omega (arith, length-take-le c list h) in
+    rw (get_or-take c list i 0 g) (f i g)
 
 -- ---- the column
 

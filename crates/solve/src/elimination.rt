@@ -12,22 +12,17 @@ pub fn eliminate(m: &mut [f64], n: usize)
     requires { (n ≤ most_unknowns) × (n * (n + 1) ≤ length m.old) }
     ensures { m.new ≡ eliminated n m.old }
 {
-    if n < 3 {
-        return;
-    }
-    // With a call before the loop and one in it, `column` is compiled by itself, which leaves its inner loops their registers.
-    let mut going = column(m, n, 1);
-    let mut i = 1;
-    while i + 2 < n {
-        if going {
-            going = column(m, n, i + 1);
+    for k in 1..n.saturating_sub(1) {
+        if !column(m, n, k) {
+            return;
         }
-        i += 1;
     }
 }
 
 // Brings the pivot of column k to row k and clears the column below it. Answers whether elimination goes on: not where the pivot is zero.
 // A zero halfway down says that the column has few entries; either way it comes to the same.
+// Compiled by itself, its inner loops have the registers.
+#[inline(never)]
 fn column(m: &mut [f64], n: usize, k: usize) -> bool
     requires { (k < n) × (n ≤ most_unknowns) × (n * (n + 1) ≤ length m.old) }
     ensures { ◌≡◌ {A = Bool × List Float} (result, m.new) (columnOf (row_start n) n k m.old) }
@@ -40,6 +35,7 @@ fn column(m: &mut [f64], n: usize, k: usize) -> bool
 }
 
 // The same, row after row.
+// kept beside `sparse_column`: the two searches answer different things, an end of rows and a list.
 fn full_column(m: &mut [f64], n: usize, k: usize) -> bool
     requires { (k < n) × (n ≤ most_unknowns) × (n * (n + 1) ≤ length m.old) }
     ensures { ◌≡◌ {A = Bool × List Float} (result, m.new) (columnOf (row_start n) n k m.old) }
@@ -70,7 +66,7 @@ fn sparse_column(m: &mut [f64], n: usize, k: usize) -> bool
     }
     let to = rows::row_start(n, k);
     swap_rows(m, p, to, n + 1);
-    clear_listed(m, &list, n, k, found.count);
+    clear_listed(m, &list[..found.count], n, k);
     true
 }
 
@@ -82,12 +78,11 @@ fn swap_rows(m: &mut [f64], a: usize, b: usize, len: usize)
     if a == b {
         return;
     }
+    // kept by hand: `m.swap` compares the places at each entry, and the loop is not done in pairs then.
     for i in 0..len {
-        let p = a + i;
-        let q = b + i;
-        let x = m[p];
-        m[p] = m[q];
-        m[q] = x;
+        let x = m[a + i];
+        m[a + i] = m[b + i];
+        m[b + i] = x;
     }
 }
 
@@ -98,28 +93,26 @@ fn clear_below(m: &mut [f64], n: usize, k: usize, end: usize)
 {
     let from = rows::row_start(n, k) + k;
     let len = n + 1 - k;
-    for i in 0..end - (k + 1) {
-        let r = k + 1 + i;
-        let to = rows::row_start(n, r) + k;
-        reduce(m, from, to, len);
+    for r in k + 1..end {
+        reduce::<false>(m, from, rows::row_start(n, r) + k, len);
     }
 }
 
-// Clears column k in the first `count` rows of the list.
-fn clear_listed(m: &mut [f64], list: &[u8], n: usize, k: usize, count: usize)
-    requires { (k < n) × (n ≤ most_unknowns) × (n * (n + 1) ≤ length m.old) × (count ≤ length list.now) × Rows n count list.now }
-    ensures { m.new ≡ turns count (clear_listed n k list.now) m.old }
+// Clears column k in the rows of the list.
+fn clear_listed(m: &mut [f64], list: &[u8], n: usize, k: usize)
+    requires { (k < n) × (n ≤ most_unknowns) × (n * (n + 1) ≤ length m.old) × Rows n (length list.now) list.now }
+    ensures { m.new ≡ turns (length list.now) (clear_listed n k list.now) m.old }
 {
     let from = rows::row_start(n, k) + k;
     let len = n + 1 - k;
-    for i in 0..count {
-        let to = rows::row_start(n, list[i] as usize) + k;
-        reduce_listed(m, from, to, len);
+    for r in list {
+        reduce::<true>(m, from, rows::row_start(n, *r as usize) + k, len);
     }
 }
 
-// Clears the entries from `to` on by those from `from` on, the pivot.
-fn reduce(m: &mut [f64], from: usize, to: usize, len: usize)
+// Clears the entries from `to` on by those from `from` on, the pivot; `LISTED` says that one loop is enough.
+// Each of the two callers has its own, which is compiled into it: there what does not change from row to row is worked out once.
+fn reduce<const LISTED: bool>(m: &mut [f64], from: usize, to: usize, len: usize)
     requires { (0 < len) × (from + len ≤ length m.old) × (to + len ≤ length m.old) }
     ensures { m.new ≡ reduced from to len m.old }
 {
@@ -127,17 +120,9 @@ fn reduce(m: &mut [f64], from: usize, to: usize, len: usize)
         return;
     }
     let ratio = m[to] / m[from];
-    update::less_scaled(m, from, to, len, ratio);
-}
-
-// The same as `reduce`, in one loop. With a caller of its own each of the two is compiled into it, where what does not change from row to row is worked out once.
-fn reduce_listed(m: &mut [f64], from: usize, at: usize, len: usize)
-    requires { (0 < len) × (from + len ≤ length m.old) × (at + len ≤ length m.old) }
-    ensures { m.new ≡ reduced from at len m.old }
-{
-    if m[at] == 0.0 {
-        return;
+    if LISTED {
+        update::less_each(m, from, to, len, ratio);
+    } else {
+        update::less_scaled(m, from, to, len, ratio);
     }
-    let ratio = m[at] / m[from];
-    update::less_many(m, from, at, len, ratio);
 }

@@ -16,15 +16,13 @@ pub fn substitute(m: &[f64], x: &mut [f64], n: usize)
     ensures { x.new ≡ substituted (row_start n) n m.now }
 {
     x[0] = 0.0;
-    let mut i = n - 1;
     let mut next = last_unknown(m, n);
     let mut tame = true;
-    x[i] = next;
-    while 1 < i {
-        i -= 1;
+    x[n - 1] = next;
+    for i in (1..n - 1).rev() {
         next = unknown(m, x, n, i, next, tame);
         x[i] = next;
-        tame = tame & num::finite(next);
+        tame &= num::finite(next);
     }
 }
 
@@ -73,16 +71,15 @@ fn sparse_rest(m: &[f64], x: &[f64], n: usize, i: usize, first: f64) -> f64
 {
     let start = rows::row_start(n, i);
     let mut s = first;
-    let mut j = 1;
-    while j + 3 < n - (i + 1) {
-        let column = i + 1 + j;
+    let fours = (n - (i + 2)) / 4;
+    for q in 0..fours {
+        let column = i + 1 + (1 + 4 * q);
         let at = start + column;
         if !four_zeros(m, at) {
             s = four_more(m, x, at, column, s);
         }
-        j += 4;
     }
-    rest(m, x, n, i, j, s)
+    rest(m, x, n, i, 1 + 4 * fours, s)
 }
 
 // The sum from term `from` on, `sum` being that of the terms before it.
@@ -100,6 +97,7 @@ fn rest(m: &[f64], x: &[f64], n: usize, i: usize, from: usize, sum: f64) -> f64
     s
 }
 
+// kept as four written out, not `all`: an early end would be a jump at each entry.
 // Whether the four entries from `at` on are zeros, of either sign.
 fn four_zeros(m: &[f64], a: usize) -> bool
     requires { a + 4 ≤ length m.now }

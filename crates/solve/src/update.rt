@@ -1,5 +1,5 @@
 // The update of a row by the pivot's: `m[to + i] - m[from + i] * ratio` for each i, in two roundings.
-ghost use Rattle.std.specs.Prelude.{◌≡◌, ◌+◌, ◌-◌, ◌≤◌, ◌<◌, length};
+ghost use Rattle.std.specs.Prelude.{◌≡◌, ◌+◌, ◌-◌, ◌*◌, ◌≤◌, ◌<◌, length};
 ghost use Rattle.solve.specs.Solve.{less_scaled};
 
 // Takes `ratio` times the `len` entries from `from` on off those from `to` on: four at a time where there are many, so that the loop ends with no rest of its own.
@@ -8,7 +8,7 @@ pub fn less_scaled(m: &mut [f64], from: usize, to: usize, len: usize, ratio: f64
     ensures { m.new ≡ less_scaled from to len ratio m.old }
 {
     let many = fours(len);
-    less_many(m, from, to, many, ratio);
+    less_each(m, from, to, many, ratio);
     less_few(m, from + many, to + many, len - many, ratio);
 }
 
@@ -19,19 +19,19 @@ fn fours(len: usize) -> usize
     if len < 8 { 0 } else { len / 4 * 4 }
 }
 
-// The same as `less_scaled`, in one loop.
-pub fn less_many(m: &mut [f64], from: usize, to: usize, len: usize, ratio: f64)
+// The same, entry after entry.
+#[inline(always)]
+pub fn less_each(m: &mut [f64], from: usize, to: usize, len: usize, ratio: f64)
     requires { (from + len ≤ length m.old) × (to + len ≤ length m.old) }
     ensures { m.new ≡ less_scaled from to len ratio m.old }
 {
     for i in 0..len {
-        let f = from + i;
-        let t = to + i;
-        m[t] = m[t] - m[f] * ratio;
+        m[to + i] -= m[from + i] * ratio;
     }
 }
 
-// The same as `less_scaled` for fewer than eight entries, without a loop.
+// The same for fewer than eight entries, without a loop.
+// kept in parts for speed: what a loop has left over would be done one by one, for every row.
 fn less_few(m: &mut [f64], from: usize, to: usize, len: usize, ratio: f64)
     requires { (len < 8) × (from + len ≤ length m.old) × (to + len ≤ length m.old) }
     ensures { m.new ≡ less_scaled from to len ratio m.old }
@@ -40,8 +40,7 @@ fn less_few(m: &mut [f64], from: usize, to: usize, len: usize, ratio: f64)
         less_below_four(m, from, to, len, ratio);
         return;
     }
-    less_two(m, from, to, ratio);
-    less_two(m, from + 2, to + 2, ratio);
+    less_each(m, from, to, 4, ratio);
     less_below_four(m, from + 4, to + 4, len - 4, ratio);
 }
 
@@ -50,34 +49,9 @@ fn less_below_four(m: &mut [f64], from: usize, to: usize, len: usize, ratio: f64
     ensures { m.new ≡ less_scaled from to len ratio m.old }
 {
     if len < 2 {
-        less_below_two(m, from, to, len, ratio);
+        less_each(m, from, to, len, ratio);
         return;
     }
-    less_two(m, from, to, ratio);
-    less_below_two(m, from + 2, to + 2, len - 2, ratio);
-}
-
-fn less_below_two(m: &mut [f64], from: usize, to: usize, len: usize, ratio: f64)
-    requires { (len < 2) × (from + len ≤ length m.old) × (to + len ≤ length m.old) }
-    ensures { m.new ≡ less_scaled from to len ratio m.old }
-{
-    if len == 0 {
-        return;
-    }
-    less_one(m, from, to, ratio);
-}
-
-fn less_two(m: &mut [f64], from: usize, to: usize, ratio: f64)
-    requires { (from + 2 ≤ length m.old) × (to + 2 ≤ length m.old) }
-    ensures { m.new ≡ less_scaled from to 2 ratio m.old }
-{
-    less_one(m, from, to, ratio);
-    less_one(m, from + 1, to + 1, ratio);
-}
-
-fn less_one(m: &mut [f64], from: usize, to: usize, ratio: f64)
-    requires { (from < length m.old) × (to < length m.old) }
-    ensures { m.new ≡ less_scaled from to 1 ratio m.old }
-{
-    m[to] = m[to] - m[from] * ratio;
+    less_each(m, from, to, 2, ratio);
+    less_each(m, from + 2, to + 2, len - 2, ratio);
 }

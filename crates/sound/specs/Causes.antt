@@ -1,7 +1,9 @@
 -- Whether a job is sound, and if not why. Clients cite cause_of, numbers_of, with_cause and with_causes. Definitions only.
-use Rattle.std.specs.Prelude.{ℕ, ◌-◌, cond, List, eqb, length, Float}
+use Rattle.std.specs.Prelude.{ℕ, ◌-◌, cond, List, eqb, length, Float, Result, Ok, Err}
 use Rattle.numbers.specs.Verdicts.{settled}
 use Rattle.numbers.specs.Causes.{behind, rejected}
+use Rattle.numbers.specs.Refusals.{number_of}
+use Rattle.numbers.specs.declared.refusal.Refusal.{Refusal}
 use Rattle.judge.specs.declared.Judged.{Judged}
 use Rattle.judge.specs.declared.Judged.TheVariants as judge
 use Rattle.judge.specs.Judge.{judge_of}
@@ -11,10 +13,10 @@ use Rattle.sound.specs.declared.causes.Cause.TheVariants.{Sound, Own, Behind, Un
 use Rattle.sound.specs.declared.causes.Numbers.{Numbers}
 
 -- what the judge's word makes of a job that is settled with no diode behind
-abbrev pub heard : Judged → Cause
-heard judge.Accepted = Sound
-heard (judge.Rejected row) = Rejected row
-heard (judge.Refused k) = Unjudged k
+abbrev pub heard : Result Judged Refusal → Cause
+heard (Ok judge.Accepted) = Sound
+heard (Ok (judge.Rejected row)) = Rejected row
+heard (Err k) = Unjudged k
 
 -- the cause of a job of n unknowns, asked in this order: its run's own number, a diode behind, and, where there are tolerances, the judge on the vector and the system that it left
 unfoldable pub cause_of : Single → List Float → ℕ → Cause
@@ -30,7 +32,7 @@ abbrev pub numbers_of : Cause → Numbers
 numbers_of Sound = record { cause = 0; place = 0 }
 numbers_of (Own number place) = record { cause = number; place = place }
 numbers_of (Behind place) = record { cause = behind; place = place }
-numbers_of (Unjudged k) = record { cause = k; place = 0 }
+numbers_of (Unjudged k) = record { cause = number_of k; place = 0 }
 numbers_of (Rejected row) = record { cause = rejected; place = row }
 
 -- a job with its cause in place of its own number, so that 0 says "sound"

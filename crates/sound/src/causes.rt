@@ -5,10 +5,11 @@ ghost use Rattle.sound.specs.Causes.{heard as heardOf, cause_of, numbers_of};
 
 use judge::Judged;
 use numbers::cause::{BEHIND, REJECTED};
+use numbers::refusal::Refusal;
 use numbers::verdict::SETTLED;
 use single::Mark;
 
-#[derive(Drop)]
+#[derive(Clone, Copy)]
 pub enum Cause {
     // settled, no diode behind, and accepted by the judge where it was asked
     Sound,
@@ -17,13 +18,13 @@ pub enum Cause {
     // the first record whose diode is behind
     Behind(u64),
     // the judge's refusal
-    Unjudged(u8),
+    Unjudged(Refusal),
     // the first row that is not within its tolerance
     Rejected(usize),
 }
 
 // A cause as a number, 0 where the job is sound, and its place: a record or a row, 0 where it has none.
-#[derive(Drop)]
+#[derive(Clone, Copy)]
 pub struct Numbers {
     pub cause: u64,
     pub place: u64,
@@ -46,13 +47,13 @@ pub fn find(m: Mark, system: &[f64], vector: &[f64], tolerances: &[f64], n: usiz
 }
 
 // What the judge's word makes of a job.
-fn heard(word: Judged) -> Cause
+fn heard(word: Result<Judged, Refusal>) -> Cause
     ensures { result ≡ heardOf word }
 {
     match word {
-        Judged::Accepted => Cause::Sound,
-        Judged::Rejected(row) => Cause::Rejected(row),
-        Judged::Refused(k) => Cause::Unjudged(k),
+        Ok(Judged::Accepted) => Cause::Sound,
+        Ok(Judged::Rejected(row)) => Cause::Rejected(row),
+        Err(k) => Cause::Unjudged(k),
     }
 }
 
@@ -71,7 +72,7 @@ pub fn told(c: Cause) -> Numbers
             place: place,
         },
         Cause::Unjudged(k) => Numbers {
-            cause: k as u64,
+            cause: k.number() as u64,
             place: 0,
         },
         Cause::Rejected(row) => Numbers {

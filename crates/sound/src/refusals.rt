@@ -8,7 +8,7 @@ use options::Options;
 use spreads::refusals::Lent;
 
 // The lengths of what is lent beyond a call of `spreads`.
-#[derive(Drop)]
+#[derive(Clone, Copy)]
 pub struct More {
     pub tolerances: usize,
     pub plus: usize,

@@ -10,9 +10,10 @@ ghost use Rattle.sound.specs.Runs.{entry_of, entry_by, entry_at};
 
 use crate::causes;
 use options::Options;
+use single::Input;
 
 // What is written down for a job: its own number, its cause with its place, and the passes solved.
-#[derive(Drop)]
+#[derive(Clone, Copy)]
 pub struct Line {
     pub number: u64,
     pub cause: u64,
@@ -131,18 +132,14 @@ fn run_one(
         ≡ entry_by tolerances.now (nodes + sources) (alone (dc_call o nodes sources sheet.now points.now
         base.old system.old elimination.old vector.old memory.old)) }
 {
-    let m = single::run_alone(
+    let i = Input {
         sheet,
         points,
         nodes,
         sources,
-        o,
-        base,
-        system,
-        elimination,
-        memory,
-        vector,
-    );
+        options: o,
+    };
+    let m = single::run_alone(i, base, system, elimination, memory, vector);
     let c = causes::told(causes::find(m, system, vector, tolerances, nodes + sources));
     Line {
         number: m.number,

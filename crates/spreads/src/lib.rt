@@ -15,7 +15,7 @@ use refusals::Lent;
 pub use tally::Report;
 
 // The number of a refusal, or the report.
-#[derive(Drop)]
+#[derive(Clone, Copy)]
 pub enum Spread {
     Refused(u8),
     Done(Report),

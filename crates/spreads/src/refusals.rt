@@ -42,9 +42,8 @@ pub fn refusal(o: Options, z: Lent) -> u8
     if z.sheets % z.jobs != 0 {
         return numbers::refusal::SHEET;
     }
-    let k = checks::refusal(o, one_job(z));
-    if k != 0 {
-        return k;
+    if let Err(k) = checks::refusal(o, one_job(z)) {
+        return k.number();
     }
     if short_results(z) {
         return numbers::refusal::ROOM;

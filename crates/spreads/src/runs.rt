@@ -4,7 +4,7 @@ ghost use Rattle.numbers.specs.Limits.{most_unknowns};
 ghost use Rattle.spreads.specs.Runs.{job_at, ResultRoom, ScratchRoom, entry_of, entry_at, table_of, table_after};
 
 use options::Options;
-use single::Mark;
+use single::{Input, Mark};
 
 // Every job in turn, on sheets of so many bytes.
 pub fn run_jobs(
@@ -76,12 +76,15 @@ fn run_job(
     let n = nodes + sources;
     let from = job * bytes;
     let to = job * n;
-    single::run_alone(
-        &sheets[from..from + bytes],
+    let i = Input {
+        sheet: &sheets[from..from + bytes],
         points,
         nodes,
         sources,
-        o,
+        options: o,
+    };
+    single::run_alone(
+        i,
         base,
         system,
         elimination,

@@ -9,14 +9,14 @@ use lib.Seq.{set_out}
 use lib.Ieee.{Float, nan}
 use Rattle.stamps.specs.Write.{Write, lands, spot_of, written, changed}
 
-module _ (n : ℕ) (x : Write) (m : List Float) (at : ℕ) (e : at ≡ spot_of (length m) n x.row x.column) where
-  pub within : written n x m ≡ set m at (changed x.change (get_or m at nan))
+module _ (n : ℕ) (x : Write) (m : List Float) where
+  pub within : (at : ℕ) → at ≡ spot_of (length m) n x.row x.column → written n x m ≡ set m at (changed x.change (get_or m at nan))
   unfolding written
-  within = by_landing (lands n x.row x.column) refl
+  within at e = by_landing (lands n x.row x.column) refl
     where
       by_landing : (b : Bool) → lands n x.row x.column ≡ b → written n x m ≡ set m at (changed x.change (get_or m at nan))
       by_landing true h = rw (e, h)
       by_landing false h = rw (e, h) (sym (set_out m (length m) _ (le_refl (length m))))
 
-  pub beyond : length m ≤ at → written n x m ≡ m
-  beyond h = within ∙ set_out m at _ h
+  pub beyond : length m ≤ spot_of (length m) n x.row x.column → written n x m ≡ m
+  beyond h = within _ refl ∙ set_out m _ _ h

@@ -11,7 +11,8 @@ use Rattle.convergence.specs.declared.Convergence.TheVariants as check
 use Rattle.steps.specs.declared.Counters.{Counters}
 use Rattle.steps.specs.declared.Report.{Report}
 use Rattle.steps.specs.declared.Report.TheVariants.{Yes, No, Error, Diode, Sine}
-use Rattle.numbers.specs.Verdicts.{settled, passes_used, diverged, diode_current, step_too_small, sine_refused}
+use Rattle.numbers.specs.declared.verdict.Verdict.{Verdict}
+use Rattle.numbers.specs.declared.verdict.Verdict.TheVariants.{Settled, PassesUsed, Diverged, DiodeCurrent, StepTooSmall, SineRefused}
 use Rattle.steps.specs.Counters.{counted, ended, with_dc, begun, anew, again, with_step, with_time}
 
 -- the report of a solved pass. A run's two vectors are equally long, so that the check never refuses there.
@@ -40,11 +41,11 @@ waited o behind Sine = Sine
 -- ---- DC
 
 -- DC ends with v, and so does the run
-abbrev pub failed : ℕ → Counters → Counters
+abbrev pub failed : Verdict → Counters → Counters
 failed v c = ended v (with_dc v c)
 
 -- DC is over with the verdict v. A DC run ends with it; a transient goes on, after 20 and 21 too, from time 0 with the step TSTEP * FS.
-unfoldable pub dc_over : Options → Bool → ℕ → Counters → Counters
+unfoldable pub dc_over : Options → Bool → Verdict → Counters → Counters
 dc_over o transient v c =
     cond transient
     (anew (begun (Ieee.mul binary64 o.tstep o.fs) (with_dc v c)))
@@ -52,11 +53,11 @@ dc_over o transient v c =
 
 -- DC: at most ITL1 + 1 passes. After 22 and 26 a transient ends too.
 unfoldable pub dc_after : Options → Bool → Report → Counters → Counters
-dc_after o transient Yes c = dc_over o transient settled (counted c)
-dc_after o transient No c = cond (ltb o.itl1 (counted c).count) (dc_over o transient passes_used (counted c)) (counted c)
-dc_after o transient Error c = dc_over o transient diverged (counted c)
-dc_after o transient Diode c = failed diode_current c
-dc_after o transient Sine c = failed sine_refused c
+dc_after o transient Yes c = dc_over o transient Settled (counted c)
+dc_after o transient No c = cond (ltb o.itl1 (counted c).count) (dc_over o transient PassesUsed (counted c)) (counted c)
+dc_after o transient Error c = dc_over o transient Diverged (counted c)
+dc_after o transient Diode c = failed DiodeCurrent c
+dc_after o transient Sine c = failed SineRefused c
 
 -- ---- transient
 
@@ -64,7 +65,7 @@ dc_after o transient Sine c = failed sine_refused c
 unfoldable pub moved : Options → Counters → Counters
 moved o c =
     let t = Ieee.add binary64 c.time c.step in
-    cond (Ieee.lt o.tstop t) (ended settled (with_time o.tstop c)) (with_time t c)
+    cond (Ieee.lt o.tstop t) (ended Settled (with_time o.tstop c)) (with_time t c)
 
 -- twice the step, at most TSTEP * RMAX
 abbrev pub doubled : Options → Float → Float
@@ -82,16 +83,16 @@ unfoldable pub shortened : Options → Counters → Counters
 shortened o c =
     let d = Ieee.mul binary64 c.step o.ft in
     cond (Ieee.lt d (Ieee.mul binary64 o.tstep o.rmin))
-    (ended step_too_small (moved o (with_step d c)))
+    (ended StepTooSmall (moved o (with_step d c)))
     (again (with_step d c))
 
 -- a step: accepted, the next begins; at the ITL4th pass that says no it is cut; after 21 time moves too, after 22 and 26 it stands
 unfoldable pub step_after : Options → Report → Counters → Counters
 step_after o Yes c = anew (moved o (eased o (counted c)))
 step_after o No c = cond (leb o.itl4 (counted c).count) (shortened o (counted c)) (counted c)
-step_after o Error c = ended diverged (moved o (counted c))
-step_after o Diode c = ended diode_current c
-step_after o Sine c = ended sine_refused c
+step_after o Error c = ended Diverged (moved o (counted c))
+step_after o Diode c = ended DiodeCurrent c
+step_after o Sine c = ended SineRefused c
 
 -- a time gets a row if it is at or above TSTART and not 0
 abbrev pub row_due : Options → Float → Bool

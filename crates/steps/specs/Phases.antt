@@ -1,12 +1,19 @@
--- The phases of a run, by number. Clients cite the names.
-use Rattle.std.specs.Prelude.{ℕ}
+-- What a phase is asked. Clients cite all of it.
+use Rattle.std.specs.Prelude.{Bool, true, false}
+use Rattle.steps.specs.declared.Phase.{Phase}
+use Rattle.steps.specs.declared.Phase.TheVariants.{Dc, Transient, Ended}
 
--- the phases; any greater number is an ended run too
-abbrev pub dc_phase : ℕ
-dc_phase = 0
+abbrev pub is_dc : Phase → Bool
+is_dc Dc = true
+is_dc Transient = false
+is_dc Ended = false
 
-abbrev pub transient_phase : ℕ
-transient_phase = 1
+abbrev pub is_transient : Phase → Bool
+is_transient Dc = false
+is_transient Transient = true
+is_transient Ended = false
 
-abbrev pub ended_phase : ℕ
-ended_phase = 2
+abbrev pub is_live : Phase → Bool
+is_live Dc = true
+is_live Transient = true
+is_live Ended = false

@@ -3,19 +3,19 @@
 #![tactic(auto)]
 
 ghost use Rattle.std.specs.Prelude.{◌≡◌};
-ghost use Rattle.steps.specs.Counters.{next as next_of, started as startedOf, counted as countedOf, ended as ended_of, anew as anewOf, written as written_of, going as goingOf, verdict_of, dc_verdict_of};
-ghost use Rattle.steps.specs.Control.{report_of, failed as failedOf, dc_over, dc_after, moved as movedOf, doubled as doubledOf, eased as easedOf, shortened as shortenedOf, step_after, row_due};
+ghost use Rattle.steps.specs.Control.{doubled as doubled_of, row_due as row_due_of};
 
 use convergence::Convergence;
-use numbers::verdict;
+use numbers::verdict::Verdict;
 use options::Options;
 
 // The phases of a run.
-pub const DC: u8 = 0;
-
-pub const TRANSIENT: u8 = 1;
-
-pub const ENDED: u8 = 2;
+#[derive(Clone, Copy, Debug, PartialEq, Eq)]
+pub enum Phase {
+    Dc,
+    Transient,
+    Ended,
+}
 
 // What a run is asked for, and no pass changes: the options, the node count, and whether a transient follows DC.
 #[derive(Clone, Copy)]
@@ -26,15 +26,13 @@ pub struct Job {
 }
 
 // All that a run carries from pass to pass besides its buffers.
-#[repr(C)]
 #[derive(Clone, Copy)]
 pub struct Counters {
-    // DC, TRANSIENT, else ended
-    pub phase: u8,
-    // the verdict, once ended
-    pub verdict: u8,
-    // the verdict of DC, once DC is over
-    pub dc: u8,
+    pub phase: Phase,
+    // how the run ended, once it has; until then it is no matter
+    pub verdict: Verdict,
+    // how DC ended, once it is over; until then it is no matter
+    pub dc: Verdict,
     // the next pass compares with zeros: it is the first of DC or of its step
     pub first: bool,
     // this step was cut
@@ -50,7 +48,7 @@ pub struct Counters {
 }
 
 // What became of a pass: solved, with what the convergence check says of it; or not solved, for a diode or a sine.
-#[derive(Clone, Copy)]
+#[derive(Clone, Copy, Debug, PartialEq, Eq)]
 pub enum Report {
     Yes,
     No,
@@ -59,238 +57,255 @@ pub enum Report {
     Sine,
 }
 
-// The counters of a run that is to begin.
-pub fn started() -> Counters
-    ensures { result ≡ startedOf }
-{
-    Counters {
-        phase: 0,
-        verdict: 0,
-        dc: 0,
-        first: true,
-        cut: false,
-        count: 0,
-        rows: 0,
-        passes: 0,
-        time: 0.0,
-        step: 0.0,
-    }
-}
-
 // The report of a solved pass, from its convergence check.
-pub fn report_of(c: Convergence) -> Report
-    ensures { result ≡ report_of c }
-{
-    match c {
-        Convergence::Yes => Report::Yes,
-        Convergence::No => Report::No,
-        Convergence::Error => Report::Error,
-        Convergence::Refused => Report::Error,
+impl From<Convergence> for Report {
+    ghost use Rattle.steps.specs.Control.{report_of};
+
+    ghost from_gives = { λ check report. report ≡ report_of check };
+
+    fn from(check: Convergence) -> Report {
+        match check {
+            Convergence::Yes => Report::Yes,
+            Convergence::No => Report::No,
+            Convergence::Error | Convergence::Refused => Report::Error,
+        }
     }
 }
 
-// The counters after a pass of DC, of a transient or of a DC run.
-pub fn dc_after(o: Options, transient: bool, r: Report, c: Counters) -> Counters
-    ensures { result ≡ dc_after o transient r c }
-{
-    match r {
-        Report::Yes => dc_over(o, transient, verdict::SETTLED, counted(c)),
-        Report::No => {
-            let d = counted(c);
-            if o.itl1 < d.count {
-                return dc_over(o, transient, verdict::PASSES_USED, d);
+impl Report {
+    ghost use Rattle.steps.specs.Control.{solved as solved_of};
+
+    // Whether the pass was solved.
+    pub fn solved(self) -> bool
+        ensures { result ≡ solved_of self }
+    {
+        !matches!(self, Report::Diode | Report::Sine)
+    }
+}
+
+#[tactic(auto, unfolding(crate::specs::Control::dc_over, crate::specs::Control::dc_after, crate::specs::Control::moved, crate::specs::Control::eased, crate::specs::Control::shortened, crate::specs::Control::step_after))]
+impl Job {
+    ghost use Rattle.steps.specs.Control.{dc_over as dc_over_of, dc_after as dc_after_of, moved as moved_of, eased as eased_of, shortened as shortened_of, step_after as step_after_of};
+
+    // The counters after a pass of DC, of a transient or of a DC run.
+    pub fn dc_after(self, r: Report, c: Counters) -> Counters
+        ensures { result ≡ dc_after_of self.options self.transient r c }
+    {
+        match r {
+            Report::Yes => self.dc_over(Verdict::Settled, c.counted()),
+            Report::No => {
+                let d = c.counted();
+                if self.options.itl1 < d.count {
+                    return self.dc_over(Verdict::PassesUsed, d);
+                }
+                d
             }
-            d
+            Report::Error => self.dc_over(Verdict::Diverged, c.counted()),
+            Report::Diode => c.failed(Verdict::DiodeCurrent),
+            Report::Sine => c.failed(Verdict::SineRefused),
         }
-        Report::Error => dc_over(o, transient, verdict::DIVERGED, counted(c)),
-        Report::Diode => failed(verdict::DIODE_CURRENT, c),
-        Report::Sine => failed(verdict::SINE_REFUSED, c),
     }
-}
 
-// The counters after a pass of a transient's step.
-pub fn step_after(o: Options, r: Report, c: Counters) -> Counters
-    ensures { result ≡ step_after o r c }
-{
-    match r {
-        Report::Yes => anew(moved(o, eased(o, counted(c)))),
-        Report::No => {
-            let d = counted(c);
-            if o.itl4 <= d.count {
-                return shortened(o, d);
+    // The counters after a pass of a transient's step.
+    pub fn step_after(self, r: Report, c: Counters) -> Counters
+        ensures { result ≡ step_after_of self.options r c }
+    {
+        match r {
+            Report::Yes => self.moved(self.eased(c.counted())).anew(),
+            Report::No => {
+                let d = c.counted();
+                if self.options.itl4 <= d.count {
+                    return self.shortened(d);
+                }
+                d
             }
-            d
+            Report::Error => self.moved(c.counted()).ended(Verdict::Diverged),
+            Report::Diode => c.ended(Verdict::DiodeCurrent),
+            Report::Sine => c.ended(Verdict::SineRefused),
         }
-        Report::Error => ended(verdict::DIVERGED, moved(o, counted(c))),
-        Report::Diode => ended(verdict::DIODE_CURRENT, c),
-        Report::Sine => ended(verdict::SINE_REFUSED, c),
     }
-}
 
-// Whether a time gets a row.
-pub fn row_due(o: Options, time: f64) -> bool
-    ensures { result ≡ row_due o time }
-{
-    if o.tstart <= time {
-        if time == 0.0 {
-            return false;
+    // DC is over with the verdict v, and a transient goes on.
+    fn dc_over(self, v: Verdict, c: Counters) -> Counters
+        ensures { result ≡ dc_over_of self.options self.transient v c }
+    {
+        if !self.transient {
+            return c.failed(v);
         }
-        return true;
+        let o = self.options;
+        Counters {
+            phase: Phase::Transient,
+            dc: v,
+            time: 0.0,
+            step: o.tstep * o.fs,
+            ..c
+        }
+        .anew()
     }
-    false
-}
 
-// One row more is written.
-pub fn written(c: Counters) -> Counters
-    ensures { result ≡ written_of c }
-{
-    let mut d = c;
-    d.rows = next(c.rows);
-    d
-}
-
-// The run has ended with the verdict v.
-pub fn ended(v: u8, c: Counters) -> Counters
-    ensures { result ≡ ended_of v c }
-{
-    let mut d = c;
-    d.phase = ENDED;
-    d.verdict = v;
-    d
-}
-
-// Whether the run wants another pass.
-pub fn going(c: Counters) -> bool
-    ensures { result ≡ goingOf c }
-{
-    c.phase < ENDED
-}
-
-// The run's verdict when no more passes are given: still going is 24.
-pub fn verdict_of(c: Counters) -> u8
-    ensures { result ≡ verdict_of c }
-{
-    if going(c) {
-        return verdict::BUDGET_SPENT;
+    // Time moves by the step; past TSTOP it becomes TSTOP and is the last.
+    fn moved(self, c: Counters) -> Counters
+        ensures { result ≡ moved_of self.options c }
+    {
+        let time = c.time + c.step;
+        let stop = self.options.tstop;
+        if stop < time {
+            return Counters { time: stop, ..c }.ended(Verdict::Settled);
+        }
+        Counters { time, ..c }
     }
-    c.verdict
-}
 
-// DC's verdict when no more passes are given.
-pub fn dc_verdict_of(c: Counters) -> u8
-    ensures { result ≡ dc_verdict_of c }
-{
-    if c.phase == DC {
-        return verdict::BUDGET_SPENT;
+    // After easy convergence the step is doubled.
+    fn eased(self, c: Counters) -> Counters
+        ensures { result ≡ eased_of self.options c }
+    {
+        if c.cut || self.options.itl3 <= c.count {
+            return c;
+        }
+        Counters {
+            step: doubled(self.options, c.step),
+            ..c
+        }
     }
-    c.dc
-}
 
-// One more, as long as there is one.
-fn next(n: u64) -> u64
-    ensures { result ≡ next_of n }
-{
-    if n < 18446744073709551615 {
-        return n + 1;
+    // The step is cut, or found too small.
+    fn shortened(self, c: Counters) -> Counters
+        ensures { result ≡ shortened_of self.options c }
+    {
+        let o = self.options;
+        let step = c.step * o.ft;
+        if step < o.tstep * o.rmin {
+            return self
+                .moved(Counters { step, ..c })
+                .ended(Verdict::StepTooSmall);
+        }
+        Counters {
+            step,
+            cut: true,
+            count: 0,
+            ..c
+        }
     }
-    n
-}
-
-// One pass more is solved.
-fn counted(c: Counters) -> Counters
-    ensures { result ≡ countedOf c }
-{
-    let mut d = c;
-    d.first = false;
-    d.count = next(c.count);
-    d.passes = next(c.passes);
-    d
-}
-
-// A step begins.
-fn anew(c: Counters) -> Counters
-    ensures { result ≡ anewOf c }
-{
-    let mut d = c;
-    d.first = true;
-    d.cut = false;
-    d.count = 0;
-    d
-}
-
-// DC ends with v, and so does the run.
-fn failed(v: u8, c: Counters) -> Counters
-    ensures { result ≡ failedOf v c }
-{
-    let mut d = c;
-    d.dc = v;
-    ended(v, d)
-}
-
-// DC is over with the verdict v, and a transient goes on.
-fn dc_over(o: Options, transient: bool, v: u8, c: Counters) -> Counters
-    ensures { result ≡ dc_over o transient v c }
-{
-    if transient {
-        let mut d = c;
-        d.dc = v;
-        d.phase = TRANSIENT;
-        d.time = 0.0;
-        d.step = o.tstep * o.fs;
-        return anew(d);
-    }
-    failed(v, c)
-}
-
-// Time moves by the step; past TSTOP it becomes TSTOP and is the last.
-fn moved(o: Options, c: Counters) -> Counters
-    ensures { result ≡ movedOf o c }
-{
-    let t = c.time + c.step;
-    let mut d = c;
-    if o.tstop < t {
-        d.time = o.tstop;
-        return ended(verdict::SETTLED, d);
-    }
-    d.time = t;
-    d
 }
 
 // Twice the step, at most TSTEP * RMAX.
+// kept: `min` takes the other number where one is a NaN; here a NaN is taken as the comparison has it, and the bits of every answer rest on that
 fn doubled(o: Options, step: f64) -> f64
-    ensures { result ≡ doubledOf o step }
+    ensures { result ≡ doubled_of o step }
 {
     let d = step * 2.0;
     let most = o.tstep * o.rmax;
     if most < d { most } else { d }
 }
 
-// After easy convergence the step is doubled.
-fn eased(o: Options, c: Counters) -> Counters
-    ensures { result ≡ easedOf o c }
+// Whether a time gets a row.
+pub fn row_due(o: Options, time: f64) -> bool
+    ensures { result ≡ row_due_of o time }
 {
-    if c.cut {
-        return c;
-    }
-    if c.count < o.itl3 {
-        let mut d = c;
-        d.step = doubled(o, c.step);
-        return d;
-    }
-    c
+    o.tstart <= time && time != 0.0
 }
 
-// The step is cut, or found too small.
-fn shortened(o: Options, c: Counters) -> Counters
-    ensures { result ≡ shortenedOf o c }
-{
-    let mut d = c;
-    d.step = c.step * o.ft;
-    let least = o.tstep * o.rmin;
-    if d.step < least {
-        return ended(verdict::STEP_TOO_SMALL, moved(o, d));
+#[tactic(auto, unfolding(crate::specs::Counters::next, crate::specs::Counters::verdict_of, crate::specs::Counters::dc_verdict_of))]
+impl Counters {
+    ghost use Rattle.steps.specs.Counters.{started as started_of, counted as counted_of, ended as ended_of, anew as anew_of, written as written_of, going as going_of, verdict_of, dc_verdict_of};
+    ghost use Rattle.steps.specs.Control.{failed as failed_of};
+
+    // The counters of a run that is to begin.
+    pub const fn started() -> Self
+        ensures { result ≡ started_of }
+    {
+        Counters {
+            phase: Phase::Dc,
+            verdict: Verdict::Settled,
+            dc: Verdict::Settled,
+            first: true,
+            cut: false,
+            count: 0,
+            rows: 0,
+            passes: 0,
+            time: 0.0,
+            step: 0.0,
+        }
     }
-    d.cut = true;
-    d.count = 0;
-    d
+
+    // Whether the run wants another pass.
+    pub fn going(self) -> bool
+        ensures { result ≡ going_of self }
+    {
+        self.phase != Phase::Ended
+    }
+
+    // The run's verdict when no more passes are given: still going is 24.
+    pub fn verdict(self) -> Verdict
+        ensures { result ≡ verdict_of self }
+    {
+        if self.going() {
+            Verdict::BudgetSpent
+        } else {
+            self.verdict
+        }
+    }
+
+    // DC's verdict when no more passes are given.
+    pub fn dc_verdict(self) -> Verdict
+        ensures { result ≡ dc_verdict_of self }
+    {
+        if self.phase == Phase::Dc {
+            Verdict::BudgetSpent
+        } else {
+            self.dc
+        }
+    }
+
+    // One row more is written.
+    pub fn written(self) -> Self
+        ensures { result ≡ written_of self }
+    {
+        Counters {
+            rows: self.rows.saturating_add(1),
+            ..self
+        }
+    }
+
+    // The run has ended with the verdict v.
+    pub fn ended(self, v: Verdict) -> Self
+        ensures { result ≡ ended_of v self }
+    {
+        Counters {
+            phase: Phase::Ended,
+            verdict: v,
+            ..self
+        }
+    }
+
+    // DC ends with v, and so does the run.
+    fn failed(self, v: Verdict) -> Self
+        ensures { result ≡ failed_of v self }
+    {
+        Counters { dc: v, ..self }.ended(v)
+    }
+
+    // One pass more is solved.
+    fn counted(self) -> Self
+        ensures { result ≡ counted_of self }
+    {
+        Counters {
+            first: false,
+            count: self.count.saturating_add(1),
+            passes: self.passes.saturating_add(1),
+            ..self
+        }
+    }
+
+    // A step begins.
+    fn anew(self) -> Self
+        ensures { result ≡ anew_of self }
+    {
+        Counters {
+            first: true,
+            cut: false,
+            count: 0,
+            ..self
+        }
+    }
 }

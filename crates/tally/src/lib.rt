@@ -1,15 +1,17 @@
 // The report over the jobs' numbers and vectors: how many have each number, and over the settled ones the exact sum, the smallest and the largest of the chosen unknown.
 #![tactic(auto)]
 
-ghost use Rattle.std.specs.Prelude.{◌≡◌, true, cond, not, ◌&&◌, ◌||◌, ◌++◌, ◌+◌, ◌-◌, ◌^◌, ◌≤◌, ◌<◌, eqb, length, drop};
+ghost use Rattle.std.specs.Prelude.{◌≡◌, true, not, ◌&&◌, ◌||◌, ◌++◌, ◌+◌, ◌≤◌, ◌<◌, eqb, length, drop};
 ghost use Rattle.std.specs.Float.Ieee.Scale.{finite};
 ghost use Rattle.numbers.specs.Limits.{most_jobs, sum_limbs};
 ghost use Rattle.numbers.specs.Verdicts.{settled};
 ghost use Rattle.loops.specs.Each.{each};
-ghost use Rattle.tally.specs.Tally.{nothing as nothingOf, number_in, value_in, how_many, lower as lowerOf, upper as upperOf, with_job, taken, totals_of, totals_over, Summable, counts_after, counts_to, holds_jobs, all_finite, ready as readyOf, totals_after};
+ghost use Rattle.tally.specs.Tally.{nothing as nothingOf, number_in, value_in, how_many, with_job, taken, totals_of, totals_over, Summable, counts_after, counts_to, holds_jobs, all_finite, ready as readyOf, totals_after};
 
 use numbers::limit::{JOB_NUMBERS, JOBS, SUM_LIMBS};
-use numbers::verdict::SETTLED;
+use numbers::verdict::Verdict;
+
+const SETTLED: u64 = Verdict::Settled as u64;
 
 // Over the settled jobs: how many, and the smallest and the largest of the chosen unknown with the job where it stands, the earliest on a tie. All 0 where none settled.
 #[derive(Clone, Copy)]
@@ -22,7 +24,7 @@ pub struct Report {
 }
 
 // A value, and the job where it stands.
-#[derive(Drop)]
+#[derive(Clone, Copy)]
 pub struct Peak {
     pub value: f64,
     pub at: u64,
@@ -39,13 +41,9 @@ pub fn count_all(numbers: &[u64], jobs: usize, counts: &mut [u64])
 pub fn count_to(numbers: &[u64], jobs: usize, kinds: usize, counts: &mut [u64])
     ensures { counts.new ≡ counts_to kinds numbers.now jobs counts.old }
 {
-    if numbers.len() < jobs {
-        return;
+    if jobs <= numbers.len() && kinds <= counts.len() {
+        count_each(numbers, jobs, kinds, counts);
     }
-    if counts.len() < kinds {
-        return;
-    }
-    count_each(numbers, jobs, kinds, counts);
 }
 
 // The same where there is room.
@@ -63,22 +61,7 @@ fn count(numbers: &[u64], jobs: usize, k: u64) -> u64
     requires { jobs ≤ length numbers.now }
     ensures { result ≡ how_many (number_in numbers.now) jobs k }
 {
-    let mut c = 0;
-    for j in 0..jobs {
-        c = one_more(c, numbers[j] == k);
-    }
-    c
-}
-
-// One more, where it is the same number.
-fn one_more(c: u64, same: bool) -> u64
-    requires { c < 2 ^ 64 - 1 }
-    ensures { result ≡ cond same (c + 1) c }
-{
-    if same {
-        return c + 1;
-    }
-    c
+    numbers[..jobs].iter().filter(|x| **x == k).count() as u64
 }
 
 // Makes `plus` less `minus` the exact sum of the chosen unknown over the settled jobs, and answers the report. Where the lists do not hold the jobs, a settled value is not finite or a row has
@@ -115,32 +98,17 @@ fn ready(
 ) -> bool
     ensures { result ≡ readyOf jobs n unknown numbers.now vectors.now plus minus }
 {
-    if !holds(jobs, n, unknown, numbers.len(), vectors.len()) {
-        return false;
-    }
-    if plus != SUM_LIMBS {
-        return false;
-    }
-    if minus != SUM_LIMBS {
-        return false;
-    }
-    all_finite(numbers, vectors, jobs, n, unknown)
+    holds(jobs, n, unknown, numbers.len(), vectors.len())
+        && plus == SUM_LIMBS
+        && minus == SUM_LIMBS
+        && all_finite(numbers, vectors, jobs, n, unknown)
 }
 
 // Whether lists of these lengths hold the jobs.
 fn holds(jobs: usize, n: usize, unknown: usize, numbers: usize, vectors: usize) -> bool
     ensures { result ≡ holds_jobs jobs n unknown numbers vectors }
 {
-    if JOBS < jobs {
-        return false;
-    }
-    if n <= unknown {
-        return false;
-    }
-    if numbers < jobs {
-        return false;
-    }
-    jobs <= vectors / n
+    jobs <= JOBS && unknown < n && jobs <= numbers && jobs <= vectors / n
 }
 
 // Whether the settled jobs' values are finite.
@@ -160,7 +128,7 @@ fn all_finite(numbers: &[u64], vectors: &[f64], jobs: usize, n: usize, unknown: 
 fn still(all: bool, number: u64, x: f64) -> bool
     ensures { result ≡ (all && (not (eqb number settled) || finite x)) }
 {
-    if number == SETTLED as u64 {
+    if number == SETTLED {
         return all & num::finite(x);
     }
     all
@@ -208,14 +176,14 @@ fn take_in(r: Report, number: u64, j: u64, x: f64, plus: &mut [u64], minus: &mut
     requires { r.settled < most_jobs }
     ensures { totals_of result plus.new minus.new ≡ taken (eqb number settled) j x r plus.old minus.old }
 {
-    if number != SETTLED as u64 {
+    if number != SETTLED {
         return r;
     }
-    exact::keep(plus, minus, x);
+    let _ = exact::keep(plus, minus, x);
     with_job(r, j, x)
 }
 
-// The report with one settled job more.
+// The report with one settled job more: it takes the place of a value that it is below or above; on a tie the earlier stays.
 fn with_job(r: Report, j: u64, x: f64) -> Report
     requires { r.settled < most_jobs }
     ensures { result ≡ with_job j x r }
@@ -229,49 +197,28 @@ fn with_job(r: Report, j: u64, x: f64) -> Report
             largest_at: j,
         };
     }
-    let low = lower(
+    let new = Peak { value: x, at: j };
+    let low = if x < r.smallest {
+        new
+    } else {
         Peak {
             value: r.smallest,
             at: r.smallest_at,
-        },
-        j,
-        x,
-    );
-    let high = upper(
+        }
+    };
+    let high = if r.largest < x {
+        new
+    } else {
         Peak {
             value: r.largest,
             at: r.largest_at,
-        },
-        j,
-        x,
-    );
+        }
+    };
     Report {
         settled: r.settled + 1,
         smallest: low.value,
         largest: high.value,
         smallest_at: low.at,
         largest_at: high.at,
-    }
-}
-
-// Job j where it is below what stands; on a tie the earlier stays.
-fn lower(p: Peak, j: u64, x: f64) -> Peak
-    ensures { result ≡ lowerOf j x p }
-{
-    if x < p.value {
-        Peak { value: x, at: j }
-    } else {
-        p
-    }
-}
-
-// Job j where it is above what stands; on a tie the earlier stays.
-fn upper(p: Peak, j: u64, x: f64) -> Peak
-    ensures { result ≡ upperOf j x p }
-{
-    if p.value < x {
-        Peak { value: x, at: j }
-    } else {
-        p
     }
 }

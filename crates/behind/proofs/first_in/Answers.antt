@@ -1,49 +1,21 @@
--- `behind::first_in` meets its contract: what is first from the turn's record on is first in all. Assumes nothing.
-use Prim.Native.Nat.{ℕ, ◌+◌, ◌-◌, ◌<◌, suc}
-use mathlib.Core.Path.{◌≡◌, refl, sym, ◌∙◌}
-use mathlib.Core.Bool.{Bool, true, false}
-use native.Mathlib.Omega.{arith}
-use native.Mathlib.Nat.{sub-zero}
-use Rattle.behind.specs.declared.Behind.TheVariants.{At}
-use Rattle.behind.specs.Behind.{behind_at, first_from, first_in}
-use Rattle.behind.specs.Laws.Quiet.{other_kind}
+-- `behind::first_in` meets its contract: `find` answers the first, as the definition does. Assumes nothing.
+use Rattle.std.proofs.Common.{◌≡◌, sym, ap, ◌∙◌, ℕ, ◌≤◌, ◌<◌, List, Float, Option, Some, None, MatchOption, true, false, arith, rules, tests}
+use Rattle.std.proofs.lemmas.Iterator.{first_from_Range}
+use Rattle.sheet.specs.Check.{records_of}
+use Rattle.behind.specs.Behind.{behind_at, first_in}
+use Rattle.behind.proofs.Laws.First.{at_first, behind_none}
 use Rattle.behind.proofs.first_in.Goals as goal
-use Rattle.behind.proofs.first_in.Goals.{then-kind_at-eq-DIODE+else-behind_at, else-kind_at-eq-DIODE}
 
--- the records from i on, of n in all: the first of them, or the first of the rest
-module _ (test : ℕ → Bool) (n i : ℕ) (h : i < n) {b : Bool} (q : b ≡ test i) where
-  found : b ≡ true → first_from test (n - i) i ≡ At i
-  unfolding first_from
-  found e = let u : n - i ≡ suc (n - (i + 1)) = omega arith in rw (u, ← q, e)
-
-  passed : b ≡ false → first_from test (n - (i + 1)) (i + 1) ≡ first_from test (n - i) i
-  unfolding first_from
-  passed e = let u : n - i ≡ suc (n - (i + 1)) = omega arith in rw (u, ← q, e)
-
-pub loop-i-init : goal.loop-i-init
-unfolding first_in
-loop-i-init c = (omega arith, rw (sub-zero, c.records-count.ensures))
-
-pub returns-then-behind_at : goal.returns-then-behind_at
-returns-then-behind_at c =
-    let l = c.loop-i in
-    let a = c.args in
-    sym (found (behind_at a.reltol a.vntol a.sheet.now a.vector.now a.memory.now) c.records-count.result l.i c.loop-i-test.true c.behind_at.ensures c.if-behind_at.true) ∙ l.invariant.1
-
-pub loop-i-preserved : goal.loop-i-preserved
-loop-i-preserved c =
-    let l = c.loop-i in
-    let a = c.args in (
-      omega arith,
-      elim c.if-kind_at-eq-DIODE.branch [
-        | then-kind_at-eq-DIODE+else-behind_at w ↦ passed (behind_at a.reltol a.vntol a.sheet.now a.vector.now a.memory.now) c.records-count.result l.i c.loop-i-test.true w.behind_at.ensures w.if-behind_at.false ∙ l.invariant.1
-        | else-kind_at-eq-DIODE w ↦ passed (behind_at a.reltol a.vntol a.sheet.now a.vector.now a.memory.now) c.records-count.result l.i c.loop-i-test.true (sym (other_kind _ _ _ _ _ _ (λ e. w.if-kind_at-eq-DIODE.false (c.kind_at.ensures ∙ e)))) refl ∙ l.invariant.1
-      ],
-    )
+module _ (r v : Float) (s : List ℕ) (x m : List Float) where
+  first : (n : ℕ) (o : Option ℕ) → n ≡ records_of s
+      → MatchOption o ((k : ℕ) → 0 ≤ k → k < n → behind_at r v s x m k ≡ false) (λ i. (0 ≤ i) × (i < n) × (behind_at r v s x m i ≡ true) × ((k : ℕ) → 0 ≤ k → k < i → behind_at r v s x m k ≡ false))
+      → o ≡ first_in r v s x m
+  first n None e h = sym (behind_none r v s x m (λ k l. h k (omega arith) (omega arith)))
+  first n (Some i) e h = sym (at_first r v s x m i (record { from = h.0; place = omega (arith, h.1); holds = h.2; earlier = h.3 }))
 
 pub returns : goal.returns
-unfolding first_from
 returns c =
-    let l = c.loop-i in
-    let e : c.records-count.result - l.i ≡ 0 = omega arith in
-    rw e at l.invariant.1
+    let a = c.args in
+    let test = behind_at a.reltol a.vntol a.sheet.now a.vector.now a.memory.now in
+    first a.reltol a.vntol a.sheet.now a.vector.now a.memory.now c.records.result c.find.result c.records.ensures
+    (first_from_Range _ _ _ c.find.result (λ i. test i ≡ true) (λ i. test i ≡ false) c.find.ensures.ran (λ x q k. search (rules, tests)) (λ x q k. (search rules, search (rules, tests))))

@@ -92,5 +92,5 @@ cases =
     ∷ []
 
 answers : all cases ≡ true
-unfolding floats.absolute_of le.le32 le.le64 le.float_at loop.copied checks.bad_order checks.bad_counts checks.bad_room checks.sizes_refusal checks.checked_of sharing.shares sharing.none_shares sheet.check_from sheet.bad_sheet sheet.bad_points range.nodes_of range.sources_of range.points_of range.nodes_fit range.sources_fit range.points_fit range.element_fault bytes.record_at bytes.element_of bytes.uses_of bytes.zeros bytes.rest_zero bytes.decode_of row.row_of kinds.current_writes kinds.conductance_writes kinds.voltage_writes kinds.diode_writes write.written write.stamped diodes.biased diodes.biased_at diodes.diodes_of plain.base_writes plain.dependent_writes plain.based_on plain.dependent_of storage.capacitor_in storage.inductor_in storage.storage_writes storage.storage_of storage.current_in storage.with_current storage.taken_of records.writes_of records.record_in sources.driven sources.driven_at sources.independent_of stamping.base_of stamping.completed stamping.linear_of stamping.stamp_of diode.thermal diode.critical diode.limited diode.floored diode.model_at diode.linearized reduction.nearest_of reduction.left_of reduction.below_of words.horner words.packed words.rounded exp.fixed_exp exp.exp_size exp.exp_of ln.ln_word ln.z_word ln.ln_size ln.ln_answer ln.ln_positive ln.ln_of solve.index_of_next_abs solve.swapped solve.less_scaled solve.reduced solve.cleared solve.column solve.eliminated solve.dot solve.unknown solve.last_unknown solve.substituted solve.solution convergence.limit convergence.place convergence.checked convergence.convergence_of behind.caught_up_of behind.diode_behind behind.behind_at behind.first_from behind.first_in behind.behind_number control.waited control.dc_over control.dc_after counters.next counters.verdict_of counters.dc_verdict_of machine.compared machine.tried machine.takes machine.took machine.written_by machine.dc_pass machine.pass machine.run_for attempt.attempt_of begin.forgotten engine.run_of engine.ending_of work.end_of Ieee.of_bits Ieee.to_bits Ieee.add Ieee.sub Ieee.mul Ieee.div Ieee.lt Ieee.le Ieee.eq Ieee.is_nan count_leading_zeros
+unfolding floats.absolute_of le.le32 le.le64 le.float_at loop.copied checks.bad_order checks.bad_counts checks.bad_room checks.sizes_fault checks.sizes_refusal checks.checked_of sharing.shares sharing.none_shares sheet.check_from sheet.bad_sheet sheet.bad_points range.nodes_of range.sources_of range.points_of range.nodes_fit range.sources_fit range.points_fit range.element_fault bytes.record_at bytes.element_of bytes.uses_of bytes.zeros bytes.rest_zero bytes.decode_of row.row_of kinds.current_writes kinds.conductance_writes kinds.voltage_writes kinds.diode_writes write.written write.stamped diodes.biased diodes.biased_at diodes.diodes_of plain.base_writes plain.dependent_writes plain.based_on plain.dependent_of storage.capacitor_in storage.inductor_in storage.storage_writes storage.storage_of storage.current_in storage.with_current storage.taken_of records.writes_of records.record_in sources.driven sources.driven_at sources.independent_of stamping.base_of stamping.completed stamping.linear_of stamping.stamp_of diode.thermal diode.critical diode.limited diode.floored diode.model_at diode.linearized reduction.nearest_of reduction.left_of reduction.below_of words.horner words.packed words.rounded exp.fixed_exp exp.exp_size exp.exp_of ln.ln_word ln.z_word ln.ln_size ln.ln_answer ln.ln_positive ln.ln_of solve.index_of_next_abs solve.swapped solve.less_scaled solve.reduced solve.cleared solve.column solve.eliminated solve.dot solve.unknown solve.last_unknown solve.substituted solve.solution convergence.limit convergence.place convergence.checked convergence.convergence_of behind.caught_up_of behind.diode_behind behind.behind_at behind.first_from behind.first_in behind.behind_number control.waited control.dc_over control.dc_after counters.next counters.verdict_of counters.dc_verdict_of machine.compared machine.tried machine.takes machine.took machine.written_by machine.dc_pass machine.pass machine.run_for attempt.attempt_of begin.forgotten engine.run_of engine.ending_of work.end_of Ieee.of_bits Ieee.to_bits Ieee.add Ieee.sub Ieee.mul Ieee.div Ieee.lt Ieee.le Ieee.eq Ieee.is_nan count_leading_zeros
 answers = refl

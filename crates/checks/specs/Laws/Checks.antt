@@ -1,21 +1,22 @@
 -- What holds where nothing is refused, and the test of the order in parts that do not wrap. Assumes nothing.
--- Clients cite order_small, Fine, fine, clean_fine, and_none and cond_none.
-use Rattle.std.specs.Prelude.{ℕ, suc, ◌+◌, ◌*◌, ◌-◌, ◌/◌, ◌≤◌, ◌<◌, ◌≡◌, Bool, cond, ◌||◌, ◌&&◌, List}
+-- Clients cite order_small, sizes_number, sizes_none, Fine, fine, clean_fine, and_none and cond_none.
+use Rattle.std.specs.Prelude.{ℕ, suc, ◌+◌, ◌*◌, ◌-◌, ◌/◌, ◌≤◌, ◌<◌, ◌≡◌, Bool, cond, ◌||◌, ◌&&◌, List, Result, Ok, Err, ⊤}
 use Rattle.std.proofs.Math.Path.{refl, ap}
 use Rattle.std.proofs.Math.Bool.{true, false, or-true}
 use mathlib.Mathlib.Data.Bool.Basic.{or-eq-false-eq-eq-false-and-eq-false as neither}
 use Rattle.std.proofs.Math.Dec.{eqb, ltb}
-use borrow.Author.Tests.{eqb-true, eqb-false, ltb-true, ltb-false, lt-ltb}
-use Rattle.std.proofs.Common.{arith}
+use borrow.Author.Tests.{eqb-false, ltb-true, ltb-false, lt-ltb}
+use Rattle.std.proofs.Common.{arith, sym, ◌∙◌}
 use Rattle.numbers.specs.Limits.{most_unknowns, most_records, most_points, most_passes, most_budget}
+use Rattle.numbers.specs.Refusals.{number_of, refused_by}
 use Rattle.options.specs.declared.Options.{Options}
-use Rattle.sheet.specs.declared.Checked.{Checked}
-use Rattle.sheet.specs.declared.Checked.TheVariants.{Clean, Faulty}
+use Rattle.numbers.specs.declared.refusal.Refusal.{Refusal}
 use Rattle.sheet.specs.Record.{record_bytes}
-use Rattle.sheet.specs.Check.{point_bytes, bad_sheet, bad_points, check_of}
+use Rattle.sheet.specs.Check.{point_bytes, bad_sheet, bad_points, check_of, ends_at}
+use Rattle.sheet.specs.Laws.Ends.{refused_none}
 use Rattle.sheet.specs.Laws.Clean.{whole_sheet, whole_points}
 use Rattle.checks.specs.declared.Sizes.{Sizes}
-use Rattle.checks.specs.Checks.{order, cells, records, bad_order, high_limit, bad_counts, short_matrix, short_vector, bad_room, sizes_refusal, limits_of, checked_of}
+use Rattle.checks.specs.Checks.{order, cells, records, bad_order, high_limit, bad_counts, short_matrix, short_vector, bad_room, or_else, sizes_fault, sizes_refusal, limits_of, checked_of}
 
 -- a conjunction that does not hold, with a first part that does
 pub and_none : (a b : Bool) → (a && b) ≡ false → a ≡ true → b ≡ false
@@ -43,6 +44,19 @@ module _ (nodes sources : ℕ) where
       same false false p q = refl
       same true false p q = absurd (omega (arith, ltb-true most_unknowns (nodes + sources) p, ltb-false (most_unknowns - nodes) sources q))
       same false true p q = absurd (omega (arith, ltb-false most_unknowns (nodes + sources) p, ltb-true (most_unknowns - nodes) sources q))
+
+-- the number of the first of 1 to 5
+or_number : (a : Bool) (k : Refusal) (r : Result ⊤ Refusal) → refused_by (or_else a k r) ≡ cond a (number_of k) (refused_by r)
+or_number true k r = refl
+or_number false k r = refl
+
+module _ (o : Options) (z : Sizes) where
+  pub sizes_number : refused_by (sizes_fault o z) ≡ sizes_refusal o z
+  unfolding sizes_fault sizes_refusal
+  sizes_number = simp or_number
+
+  pub sizes_none : sizes_refusal o z ≡ 0 → sizes_fault o z ≡ Ok tt
+  sizes_none e = refused_none (sizes_fault o z) (sizes_number ∙ e)
 
 -- none of the conditions 1 to 5 holds: there is a node and N is at most 48; the sheet is whole records, at most 256; the points are whole, at most 1,024; ITL1, ITL3 and ITL4 are at most 10,000 and the
 -- budget is 1 to 1,000,000; and every lent buffer has its room
@@ -111,14 +125,10 @@ fine o z e =
     }
 
 -- a clean answer means that nothing is refused: 1 to 5 leave what `Fine` says, and the sheet is clean
-pub clean_fine : (o : Options) (z : Sizes) (sheet : List ℕ) → checked_of o z sheet ≡ Clean → (sizes_refusal o z ≡ 0) × (check_of sheet (limits_of z) ≡ Clean)
+pub clean_fine : (o : Options) (z : Sizes) (sheet : List ℕ) → checked_of o z sheet ≡ Ok tt → (sizes_refusal o z ≡ 0) × (check_of sheet (limits_of z) ≡ Ok tt)
 unfolding checked_of
-clean_fine o z sheet e = by (eqb (sizes_refusal o z) 0) refl e
+clean_fine o z sheet e = by (sizes_fault o z) (sizes_number o z) e
   where
-    faulty : Checked → ℕ
-    faulty Clean = 1
-    faulty (Faulty k i) = 0
-
-    by : (b : Bool) → eqb (sizes_refusal o z) 0 ≡ b → cond b (check_of sheet (limits_of z)) (Faulty (sizes_refusal o z) 0) ≡ Clean → (sizes_refusal o z ≡ 0) × (check_of sheet (limits_of z) ≡ Clean)
-    by true t h = (eqb-true _ 0 t, h)
-    by false t h = absurd (let z : ◌≡◌ {A = ℕ} 0 1 = ap faulty h in omega arith)
+    by : (r : Result ⊤ Refusal) → refused_by r ≡ sizes_refusal o z → ends_at 0 r (check_of sheet (limits_of z)) ≡ Ok tt → (sizes_refusal o z ≡ 0) × (check_of sheet (limits_of z) ≡ Ok tt)
+    by (Ok u) n h = (sym n, h)
+    by (Err k) n h = absurd (let z : ◌≡◌ {A = ℕ} 0 1 = cc in omega arith)

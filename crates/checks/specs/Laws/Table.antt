@@ -1,20 +1,22 @@
 -- The table of refusals, both ways: a call is clean exactly when none of the conditions 1 to 10 holds, and a refused one is told the first that does. Clients cite fine_none, NoneMet, none_met, clean_none_met,
 -- Met, sizes_most and refused_met. Assumes nothing.
-use Rattle.std.specs.Prelude.{ℕ, ◌/◌, ◌%◌, ◌≤◌, ◌<◌, ◌≡◌, refl, Bool, true, false, cond, ◌||◌, ◌&&◌, List, eqb, ltb}
+use Rattle.std.specs.Prelude.{ℕ, ◌/◌, ◌%◌, ◌≤◌, ◌<◌, ◌≡◌, refl, Bool, true, false, cond, ◌||◌, ◌&&◌, List, eqb, ltb, Result, Ok, Err, ⊤}
 use mathlib.Mathlib.Data.Bool.Basic.{or-eq-false-eq-eq-false-and-eq-false as neither}
-use Rattle.std.proofs.Common.{eqb-true, le-ltb, ne_eqb, arith}
-use Rattle.std.proofs.lemmas.Bool.{eqb-false}
+use Rattle.std.proofs.Common.{le-ltb, ne_eqb, arith, sym, subst}
 use Rattle.numbers.specs.Limits.{most_records, most_points}
 use Rattle.numbers.specs.Refusals.{by_order, by_sheet, by_points, by_counts, by_room}
+use Rattle.numbers.specs.Refusals.{number_of, refused_by}
+use Rattle.numbers.specs.declared.refusal.Refusal.{Refusal}
 use Rattle.options.specs.declared.Options.{Options}
-use Rattle.sheet.specs.declared.Checked.TheVariants.{Clean, Faulty}
+use Rattle.sheet.specs.declared.Fault.{Fault}
 use Rattle.sheet.specs.Record.{record_bytes}
-use Rattle.sheet.specs.Check.{point_bytes, records_of, not_whole, bad_sheet, bad_points, check_of}
+use Rattle.sheet.specs.Check.{point_bytes, records_of, not_whole, bad_sheet, bad_points, check_of, ends_at}
+use Rattle.sheet.specs.Laws.Ends.{some_number}
 use Rattle.sheet.specs.Laws.Clean.{First, faulty_at}
 use Rattle.sheet.specs.Laws.Right.{Right, all_right, clean_right}
 use Rattle.checks.specs.declared.Sizes.{Sizes}
-use Rattle.checks.specs.Checks.{bad_order, bad_counts, bad_room, sizes_refusal, limits_of, checked_of}
-use Rattle.checks.specs.Laws.Checks.{Fine, fine, clean_fine}
+use Rattle.checks.specs.Checks.{bad_order, bad_counts, bad_room, sizes_fault, sizes_refusal, limits_of, checked_of}
+use Rattle.checks.specs.Laws.Checks.{Fine, fine, clean_fine, sizes_number, sizes_none}
 
 -- ---- a call that meets none of the conditions is not refused
 
@@ -51,12 +53,12 @@ pub record NoneMet (o : Options) (z : Sizes) (sheet : List ℕ) : Type 0 where
   pub sizes : Fine o z
   pub records : (i : ℕ) → i < records_of sheet → Right sheet (limits_of z) i
 
-pub none_met : (o : Options) (z : Sizes) (sheet : List ℕ) → NoneMet o z sheet → checked_of o z sheet ≡ Clean
+pub none_met : (o : Options) (z : Sizes) (sheet : List ℕ) → NoneMet o z sheet → checked_of o z sheet ≡ Ok tt
 unfolding checked_of
-none_met o z sheet h = rw (fine_none o z h.sizes) (all_right sheet (limits_of z) h.records)
+none_met o z sheet h = rw (sizes_none o z (fine_none o z h.sizes)) (all_right sheet (limits_of z) h.records)
 
 -- and no condition holds of a clean call
-pub clean_none_met : (o : Options) (z : Sizes) (sheet : List ℕ) → checked_of o z sheet ≡ Clean → NoneMet o z sheet
+pub clean_none_met : (o : Options) (z : Sizes) (sheet : List ℕ) → checked_of o z sheet ≡ Ok tt → NoneMet o z sheet
 clean_none_met o z sheet e =
     let f = clean_fine o z sheet e in
     record { sizes = fine o z f.0; records = λ i h. clean_right sheet (limits_of z) i f.1 h }
@@ -82,16 +84,12 @@ sizes_most o z =
     (below (bad_counts o) by_counts _ (omega arith)
     (below (bad_room z) by_room 0 (omega arith) (omega arith)))))
 
-pub refused_met : (o : Options) (z : Sizes) (sheet : List ℕ) (k i : ℕ) → checked_of o z sheet ≡ Faulty k i → Met o z sheet k i
+pub refused_met : (o : Options) (z : Sizes) (sheet : List ℕ) (f : Fault) → checked_of o z sheet ≡ Err f → Met o z sheet (number_of f.refusal) f.place
 unfolding checked_of
-refused_met o z sheet k i e = by (eqb (sizes_refusal o z) 0) refl e
+refused_met o z sheet f e = by (sizes_fault o z) (sizes_number o z) e
   where
-    same : (a : ℕ) → Faulty a 0 ≡ Faulty k i → a ≡ sizes_refusal o z → by_order ≤ a → a ≤ by_room → Met o z sheet k i
-    same a q s l h =
-        let ka : k ≡ a = cc in
-        let ia : i ≡ 0 = cc in
-        rw (ka, ia) («by-sizes» s l h)
-
-    by : (b : Bool) → eqb (sizes_refusal o z) 0 ≡ b → cond b (check_of sheet (limits_of z)) (Faulty (sizes_refusal o z) 0) ≡ Faulty k i → Met o z sheet k i
-    by true t h = «by-record» (eqb-true _ 0 t) (faulty_at sheet (limits_of z) k i h)
-    by false t h = same (sizes_refusal o z) h refl (omega (arith, eqb-false (sizes_refusal o z) 0 t)) (sizes_most o z)
+    by : (r : Result ⊤ Refusal) → refused_by r ≡ sizes_refusal o z → ends_at 0 r (check_of sheet (limits_of z)) ≡ Err f → Met o z sheet (number_of f.refusal) f.place
+    by (Ok u) n h = «by-record» (sym n) (faulty_at sheet (limits_of z) f h)
+    by (Err k) n h =
+        let q : record { refusal = k; place = 0 } ≡ f = cc in
+        subst (λ (f : Fault). Met o z sheet (number_of f.refusal) f.place) q («by-sizes» n (some_number k) (rw n (sizes_most o z)))

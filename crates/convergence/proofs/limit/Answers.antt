@@ -1,11 +1,12 @@
--- `convergence::limit` meets its contract. Assumes nothing.
+-- `convergence::limit` meets its contract.
 use Rattle.convergence.specs.Convergence.{limit}
 use Rattle.convergence.proofs.limit.Goals as goal
-
-pub returns-then-node : goal.returns-then-node
-unfolding limit
-returns-then-node c = rw (c.if-node.true, c.absolute.ensures)
+use Rattle.convergence.proofs.limit.Goals.{then-node, else-node}
 
 pub returns : goal.returns
 unfolding limit
-returns c = rw (c.if-node.false, c.absolute.ensures)
+returns c =
+    elim c.if-node.branch [
+      | then-node w ↦ rw (w.least-is, w.if-node.true, c.absolute.ensures)
+      | else-node w ↦ rw (w.least-is, w.if-node.false, c.absolute.ensures)
+    ]

@@ -1,5 +1,4 @@
 -- `decimal::decimal_of` meets its contract.
-use borrow.Author.Rules.{rules}
 use mathlib.Core.Path.{◌≡◌, refl}
 use mathlib.Core.Bool.{Bool, true, false, not, beq}
 use Prim.Native.Nat.{ℕ, ◌*◌}
@@ -38,9 +37,6 @@ returns-then-x c = rw (not-number _ c.if-x.true)
 
 pub float_to_bits-x : goal.float_to_bits-x
 float_to_bits-x c = number _ c.if-x.false
-
-pub of_pattern-requires : goal.of_pattern-requires
-of_pattern-requires c = search rules
 
 pub returns : goal.returns
 unfolding decimal_of

@@ -1,5 +1,4 @@
 -- `decimal::of_steps` meets its contract.
-use borrow.Author.Rules.{rules}
 use mathlib.Core.Path.{sym, ap, subst, ◌∙◌}
 use Prim.Native.Nat.{◌^◌, ◌<◌}
 use native.Mathlib.Omega.{arith}
@@ -9,12 +8,6 @@ use Rattle.decimal.specs.Shortest.{number_of}
 use Rattle.decimal.specs.Decimal.{signed}
 use Rattle.decimal.proofs.Digits.{span_few}
 use Rattle.decimal.proofs.of_steps.Goals as goal
-
-pub span_of-requires : goal.span_of-requires
-span_of-requires c = search rules
-
-pub place_of-requires : goal.place_of-requires
-place_of-requires c = search rules
 
 pub shortest-n-requires : goal.shortest-n-requires
 shortest-n-requires c =

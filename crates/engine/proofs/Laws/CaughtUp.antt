@@ -5,12 +5,14 @@ use Rattle.std.specs.Prelude.{ℕ, ◌+◌, ◌≤◌, ◌≡◌, Bool, true, fa
 use Rattle.std.proofs.Math.Path.{refl, ap}
 use Rattle.std.proofs.Common.{sym, subst, ◌∙◌, true≢false, inl, arith}
 use mathlib.Core.List.{List}
-use Rattle.numbers.specs.Verdicts.{settled, budget_spent}
+use Rattle.numbers.specs.declared.verdict.Verdict.TheVariants.{Settled, BudgetSpent}
+use Rattle.numbers.specs.Verdicts.{settled, number_of}
 use Rattle.options.specs.declared.Options.{Options}
 use Rattle.options.specs.Switch.{on}
-use Rattle.sheet.specs.declared.Checked.{Checked}
-use Rattle.sheet.specs.declared.Checked.TheVariants.{Clean, Faulty}
-use Rattle.checks.specs.Checks.{order, records, bad_counts, sizes_refusal, checked_of}
+use Rattle.sheet.specs.Check.{Checked}
+use Rattle.sheet.specs.declared.Fault.{Fault}
+use Rattle.std.specs.declared.result.Result.TheVariants.{Ok, Err}
+use Rattle.checks.specs.Checks.{order, records, bad_counts, sizes_fault, checked_of}
 use Rattle.checks.specs.Laws.Checks.{fine, clean_fine}
 use Rattle.groups.specs.Laws.Storage.{no_diode, taken_elsewhere}
 use Rattle.behind.specs.Behind.{behind_number}
@@ -18,8 +20,9 @@ use Rattle.behind.specs.Laws.Same.{number_same}
 use Rattle.steps.specs.declared.Counters.{Counters}
 use Rattle.steps.specs.declared.Report.{Report}
 use Rattle.steps.specs.declared.Report.TheVariants.{Yes, No, Error, Diode, Sine}
-use Rattle.steps.specs.Phases.{dc_phase}
+use Rattle.steps.specs.declared.Phase.TheVariants.{Dc}
 use Rattle.steps.specs.Counters.{top, going, verdict_of}
+use Rattle.steps.specs.Laws.Verdicts.{differ, one_verdict}
 use Rattle.steps.specs.Laws.Waited.{waited_caught}
 use Rattle.steps.specs.Laws.Switched.{with_catchup}
 use Rattle.machine.specs.State.{State, Attempt}
@@ -65,7 +68,7 @@ module _ (k : Circuit) (on : on k.job.options.catchup ≡ true) where
 
 module _ (c : Call) where
   -- with the option on, in a DC run that settled and in a transient that came to its end no diode is behind
-  pub caught_up_lem : on c.job.options.catchup ≡ true → verdict_of (last_of c).counters ≡ settled → behind_in c.job.options c.sheet (last_of c).buffers ≡ 0
+  pub caught_up_lem : on c.job.options.catchup ≡ true → verdict_of (last_of c).counters ≡ Settled → behind_in c.job.options c.sheet (last_of c).buffers ≡ 0
   unfolding end_of
   caught_up_lem h e =
       ends_with_yes (λ (v m : List Float). behind_number c.job.options c.sheet v m ≡ 0) (attempt_of (circuit c)) c.job (yes_caught (circuit c) h)
@@ -76,8 +79,8 @@ module _ (c : Call) where
   answer_caught_up h e = by_check (checked_call c) refl
     where
       by_check : (x : Checked) → checked_call c ≡ x → (numbers_of (run_of c).outcome).behind ≡ 0
-      by_check Clean q = rw (ended_numbers c q) (caught_up_lem h (rw (ended_numbers c q) at e))
-      by_check (Faulty k i) q = rw (refused_numbers c k i q)
+      by_check (Ok u) q = rw (ended_numbers c q) (caught_up_lem h (one_verdict _ Settled (rw (ended_numbers c q) at e)))
+      by_check (Err f) q = rw (refused_numbers c f q)
 
 -- ---- the option on and off
 
@@ -94,15 +97,15 @@ with_switch w c =
     }
 
 -- what is over with 0
-over_settled : (c : Counters) → verdict_of c ≡ settled → (going c ≡ false) × (c.verdict ≡ settled)
+over_settled : (c : Counters) → verdict_of c ≡ Settled → (going c ≡ false) × (c.verdict ≡ Settled)
 unfolding verdict_of
 over_settled c e = go (going c) refl e
   where
-    go : (b : Bool) → going c ≡ b → cond b budget_spent c.verdict ≡ settled → (going c ≡ false) × (c.verdict ≡ settled)
-    go true g q = absurd (omega arith)
+    go : (b : Bool) → going c ≡ b → cond b BudgetSpent c.verdict ≡ Settled → (going c ≡ false) × (c.verdict ≡ Settled)
+    go true g q = absurd (differ {v = BudgetSpent} {w = Settled} refl q)
     go false g q = (g, q)
 
-settled_over : (c : Counters) → going c ≡ false → c.verdict ≡ settled → verdict_of c ≡ settled
+settled_over : (c : Counters) → going c ≡ false → c.verdict ≡ Settled → verdict_of c ≡ Settled
 unfolding verdict_of
 settled_over c g e = rw g e
 
@@ -112,15 +115,15 @@ module _ (a b : State) where
   not_more (same e) = subst (λ (s : State). s.counters.passes ≤ a.counters.passes) e (omega arith)
   not_more (apart p) = p.fewer
 
-  both_settle : Pair a b → verdict_of a.counters ≡ settled → verdict_of b.counters ≡ settled
-  both_settle (same e) v = subst (λ (s : State). verdict_of s.counters ≡ settled) e v
+  both_settle : Pair a b → verdict_of a.counters ≡ Settled → verdict_of b.counters ≡ Settled
+  both_settle (same e) v = subst (λ (s : State). verdict_of s.counters ≡ Settled) e v
   both_settle (apart p) v = settled_over b.counters p.over p.settles
 
-  as_many : Pair a b → verdict_of a.counters ≡ settled → a.counters.passes ≡ b.counters.passes → a ≡ b
+  as_many : Pair a b → verdict_of a.counters ≡ Settled → a.counters.passes ≡ b.counters.passes → a ≡ b
   as_many (same e) v q = e
   as_many (apart p) v q = absurd (let o = over_settled a.counters v in omega (arith, p.later o.0 o.1))
 
-paired : (f : Attempt) (o : Options) (nodes w : ℕ) (t : Bool) → t ≡ false → (n : ℕ) (s : State) → s.counters.phase ≡ dc_phase → s.counters.passes + n ≤ top
+paired : (f : Attempt) (o : Options) (nodes w : ℕ) (t : Bool) → t ≡ false → (n : ℕ) (s : State) → s.counters.phase ≡ Dc → s.counters.passes + n ≤ top
     → Pair (run_for f (record { options = with_catchup w o; nodes = nodes; transient = t }) n s) (run_for f (record { options = with_catchup 0 o; nodes = nodes; transient = t }) n s)
 paired f o nodes w true e n s h l = absurd (true≢false e)
 paired f o nodes w false e n s h l = pairs f o nodes w n s h l
@@ -135,7 +138,7 @@ module _ (c : Call) (dc : c.job.transient ≡ false) (w : ℕ) where
 
   -- both are refused alike
   same_check : (v : ℕ) → checked_call (with_switch v c) ≡ checked_call without
-  unfolding checked_of sizes_refusal bad_counts
+  unfolding checked_of sizes_fault bad_counts
   same_check v = refl
 
   -- both begin alike, and stamp and solve alike
@@ -148,7 +151,7 @@ module _ (c : Call) (dc : c.job.transient ≡ false) (w : ℕ) where
       ap (λ (f : Attempt). run_for f (with_switch v c).job c.job.options.budget start)
       (attempts_same c.job.options v 0 c.job.nodes (order (sizes c)) c.job.transient c.sheet c.points)
 
-  two : checked_call without ≡ Clean → Pair (last_of with_it) (last_of without)
+  two : checked_call without ≡ Ok tt → Pair (last_of with_it) (last_of without)
   two clean =
       let small : 0 + c.job.options.budget ≤ top = omega (arith, (fine without.job.options (sizes without) (clean_fine without.job.options (sizes without) c.sheet clean).0).spent) in
       subst (λ (s : State). Pair s (last_of without)) (sym (ends_as w))
@@ -160,34 +163,36 @@ module _ (c : Call) (dc : c.job.transient ≡ false) (w : ℕ) where
   never_fewer = by_check (checked_call without) refl
     where
       by_check : (x : Checked) → checked_call without ≡ x → (numbers_of (run_of without).outcome).passes ≤ (numbers_of (run_of with_it).outcome).passes
-      by_check Clean q = rw (ended_numbers without q, ended_numbers with_it (same_check w ∙ q)) (not_more (last_of with_it) (last_of without) (two q))
-      by_check (Faulty k i) q = rw (refused_numbers without k i q, refused_numbers with_it k i (same_check w ∙ q)) (omega arith)
+      by_check (Ok u) q = rw (ended_numbers without q, ended_numbers with_it (same_check w ∙ q)) (not_more (last_of with_it) (last_of without) (two q))
+      by_check (Err f) q = rw (refused_numbers without f q, refused_numbers with_it f (same_check w ∙ q)) (omega arith)
 
   -- where it settles with the option on, it does with it off
   pub settles_too : (numbers_of (run_of with_it).outcome).verdict ≡ settled → (numbers_of (run_of without).outcome).verdict ≡ settled
   settles_too e = by_check (checked_call without) refl
     where
       by_check : (x : Checked) → checked_call without ≡ x → (numbers_of (run_of without).outcome).verdict ≡ settled
-      by_check Clean q = rw (ended_numbers without q) (both_settle (last_of with_it) (last_of without) (two q) (rw (ended_numbers with_it (same_check w ∙ q)) at e))
-      by_check (Faulty k i) q = rw (refused_numbers without k i q)
+      by_check (Ok u) q =
+          rw (ended_numbers without q)
+          (ap number_of (both_settle (last_of with_it) (last_of without) (two q) (one_verdict _ Settled (rw (ended_numbers with_it (same_check w ∙ q)) at e))))
+      by_check (Err f) q = rw (refused_numbers without f q)
 
   -- the results of one end
   one_end : last_of with_it ≡ last_of without → run_of with_it ≡ run_of without
-  unfolding run_of behind_number checked_of sizes_refusal bad_counts
+  unfolding run_of behind_number checked_of sizes_fault bad_counts
   one_end e =
       ap (λ (t : State). unless (checked_call without) (result_of (ending_of t.counters (behind_in without.job.options c.sheet t.buffers)) (laid (sizes c) t.buffers c.lent)) (result_of (refused_of (checked_call without)) c.lent)) e
 
-  refused_same : (k i : ℕ) → checked_call without ≡ Faulty k i → run_of with_it ≡ run_of without
+  refused_same : (f : Fault) → checked_call without ≡ Err f → run_of with_it ≡ run_of without
   unfolding run_of
-  refused_same k i q = rw (same_check w ∙ q, q)
+  refused_same f q = rw (same_check w ∙ q, q)
 
   -- a DC run that settles with the option on in as many passes as with it off has the same bits: the same answer, and the same in every lent buffer
   pub same_bits : (numbers_of (run_of with_it).outcome).verdict ≡ settled → (numbers_of (run_of with_it).outcome).passes ≡ (numbers_of (run_of without).outcome).passes → run_of with_it ≡ run_of without
   same_bits e n = by_check (checked_call without) refl
     where
       by_check : (x : Checked) → checked_call without ≡ x → run_of with_it ≡ run_of without
-      by_check Clean q =
-          let u = ended_numbers with_it (same_check w ∙ q) in
+      by_check (Ok u) q =
+          let w1 = ended_numbers with_it (same_check w ∙ q) in
           let v = ended_numbers without q in
-          one_end (as_many (last_of with_it) (last_of without) (two q) (rw u at e) (rw (u, v) at n))
-      by_check (Faulty k i) q = refused_same k i q
+          one_end (as_many (last_of with_it) (last_of without) (two q) (one_verdict _ Settled (rw w1 at e)) (rw (w1, v) at n))
+      by_check (Err f) q = refused_same f q

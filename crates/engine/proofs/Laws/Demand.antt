@@ -9,8 +9,10 @@ use Rattle.std.proofs.Math.Seq.{drop_at, get_or-take}
 use Rattle.std.specs.Float.Ieee.{nan}
 use Rattle.numbers.specs.Kinds.{diode, inductor}
 use Rattle.numbers.specs.Refusals.{by_order, by_kind, by_pattern}
-use Rattle.numbers.specs.Verdicts.{budget_spent}
-use Rattle.sheet.specs.declared.Checked.TheVariants.{Clean}
+use Rattle.numbers.specs.declared.verdict.Verdict as verdicts
+use Rattle.numbers.specs.declared.verdict.Verdict.TheVariants.{BudgetSpent}
+use Rattle.std.specs.declared.result.Result.TheVariants.{Ok, Err}
+use Rattle.numbers.specs.Refusals as Refusals
 use Rattle.sheet.specs.Record.{kind_at}
 use Rattle.checks.specs.Checks.{order, cells, records}
 use Rattle.checks.specs.Laws.Checks.{fine, clean_fine}
@@ -44,7 +46,7 @@ pub record Past (c : Call) (x : Buffers) : Type 0 where
   pub memory : drop (records (sizes c)) x.memory ≡ drop (records (sizes c)) c.lent.memory
 
 -- the verdicts of an analysis: of DC 0, 20, 21, 22 and 24; of a transient 0 and 21 to 26
-abbrev pub OfAnalysis : Bool → ℕ → Type 0
+abbrev pub OfAnalysis : Bool → verdicts.Verdict → Type 0
 OfAnalysis false v = DcVerdict v
 OfAnalysis true v = Verdict true v
 
@@ -54,7 +56,7 @@ pub record Ends (c : Call) (e : Ending) : Type 0 where
   pub verdict : OfAnalysis c.job.transient e.verdict
   pub dc : DcVerdict e.dc
   pub passes : e.passes ≤ c.job.options.budget
-  pub spent : e.verdict ≡ budget_spent → e.passes ≡ c.job.options.budget
+  pub spent : e.verdict ≡ BudgetSpent → e.passes ≡ c.job.options.budget
   pub rows : length c.lent.rows ≤ top → (m : ℕ) → e.rows * (order (sizes c) + 1) ≤ m → drop m (run_of c).buffers.rows ≡ drop m c.lent.rows
   pub past : Past c (run_of c).buffers
   pub others : (i : ℕ) → i < records (sizes c) → (kind_at c.sheet i ≡ diode → ⊥) → (kind_at c.sheet i ≡ inductor → ⊥) → get_or (run_of c).buffers.memory i nan ≡ get_or c.lent.memory i nan
@@ -69,7 +71,7 @@ module _ (c : Call) where
   refusal k i («by-sizes» q l h) e = record { least = l; most = omega arith; place = λ p. refl; met = «by-sizes» q l h; kept = e }
   refusal k i («by-record» q f) e = record { least = omega (arith, f.least); most = f.most; place = λ p. absurd (omega (arith, f.least)); met = «by-record» q f; kept = e }
 
-  module _ (clean : checked_call c ≡ Clean) where
+  module _ (clean : checked_call c ≡ Ok tt) where
     abbrev last : Buffers
     last = (last_of c).buffers
 
@@ -111,7 +113,7 @@ module _ (c : Call) where
   unfolding refused_of
   answered =
       run_by_check c (λ (x : Result). run_of c ≡ x → Answer c x.outcome) (λ e q. ending e q)
-      (λ k i e q. refuses (refusal k i (refused_met c.job.options (sizes c) c.sheet k i e) (ap (λ (x : Result). x.buffers) q)))
+      (λ f e q. refuses (refusal (Refusals.number_of f.refusal) f.place (refused_met c.job.options (sizes c) c.sheet f e) (ap (λ (x : Result). x.buffers) q)))
       refl
 
   -- the table's other half: a call that meets none of the conditions 1 to 10 is not refused, and ends as its last state says
@@ -124,4 +126,4 @@ module _ (c : Call) where
   unfolding refused_of
   ended_none_met e =
       run_by_check c (λ (x : Result). x.outcome ≡ Ended e → NoneMet c.job.options (sizes c) c.sheet) (λ q t. clean_none_met c.job.options (sizes c) c.sheet q)
-      (λ k i q t. absurd (let z : ◌≡◌ {A = ℕ} 0 1 = cc in omega arith))
+      (λ f q t. absurd (let z : ◌≡◌ {A = ℕ} 0 1 = cc in omega arith))

@@ -16,7 +16,7 @@ use Rattle.loops.specs.Laws.Loop.{turns_inv}
 use Rattle.sheet.specs.declared.NodeId.{NodeId}
 use Rattle.sheet.specs.declared.SourceId.{SourceId}
 use Rattle.sheet.specs.declared.Element.TheVariants.{L}
-use Rattle.sheet.specs.declared.Decoded.TheVariants.{Good}
+use Rattle.std.specs.declared.result.Result.TheVariants.{Ok, Err}
 use Rattle.sheet.specs.Record.{kind_at}
 use Rattle.sheet.specs.Kind.{kind_of}
 use Rattle.sheet.specs.Laws.Kind.{kind_at_lem}
@@ -28,7 +28,9 @@ use Rattle.groups.specs.Records.{element_at, across}
 use Rattle.groups.specs.Storage.{current_in}
 use Rattle.groups.specs.Laws.Stamping.{fine, memory_stays}
 use Rattle.groups.specs.Laws.Storage.{no_diode, taken_here, nothing_taken}
-use Rattle.steps.specs.Phases.{dc_phase, transient_phase}
+use Rattle.steps.specs.declared.Phase.TheVariants.{Dc, Transient}
+use Rattle.steps.specs.Phases.{is_dc}
+use Rattle.steps.specs.Laws.Phases.{transient_not_dc}
 use Rattle.machine.specs.State.{State, Attempted}
 use Rattle.machine.specs.Machine.{compared, tried, accepts, took, tried_by, dc_pass, step_pass, pass}
 use Rattle.machine.specs.Laws.Budget.{pass_dc, pass_step}
@@ -60,7 +62,7 @@ module _ (k : Circuit) (s : State) where
 
   -- ---- the inductor of record i
 
-  module _ (i : ℕ) (a b : NodeId) (henries : Float) (n : SourceId) (here : element_at k.sheet i ≡ Good (L a b henries n)) where
+  module _ (i : ℕ) (a b : NodeId) (henries : Float) (n : SourceId) (here : element_at k.sheet i ≡ Ok (L a b henries n)) where
     abbrev before : Float
     before = get_or s.buffers.memory i nan
 
@@ -75,11 +77,11 @@ module _ (k : Circuit) (s : State) where
         ∙ memory_stays o p k.sheet k.points x.base s.accepted x.vector x.memory x.base i (λ h. no_diode (sym (kind_at_lem k.sheet i (L a b henries n) here) ∙ h))
 
     -- a step that is not accepted, whether it goes on, is cut or ends the run, moves nothing
-    pub rejected_keeps : s.counters.phase ≡ transient_phase → accepts (tried_by (attempt_of k) k.job s).report ≡ false → get_or passed.buffers.memory i nan ≡ before
+    pub rejected_keeps : s.counters.phase ≡ Transient → accepts (tried_by (attempt_of k) k.job s).report ≡ false → get_or passed.buffers.memory i nan ≡ before
     rejected_keeps h r = ap (λ (y : List Float). get_or y i nan) (machine.rejected_stays (attempt_of k) k.job s h r) ∙ attempt_leaves
 
     -- nor does a pass of DC after which DC goes on or has failed (22, 26)
-    pub dc_keeps : s.counters.phase ≡ dc_phase → (DcEnds passed.counters → ⊥) → get_or passed.buffers.memory i nan ≡ before
+    pub dc_keeps : s.counters.phase ≡ Dc → (DcEnds passed.counters → ⊥) → get_or passed.buffers.memory i nan ≡ before
     dc_keeps h r = ap (λ (y : List Float). get_or y i nan) (machine.dc_stays (attempt_of k) k.job s h r) ∙ attempt_leaves
 
     module _ (room : i < records_of k.sheet) (lent : i < length s.buffers.memory) where
@@ -98,22 +100,22 @@ module _ (k : Circuit) (s : State) where
           ∙ ap (current_in (pass_of k.job k.order s.counters) solved.vector a.0 b.0 henries n) attempt_leaves
 
       -- an accepted step: the conductance, step over henries, times the new voltage plus the old current; the step is the one with which the pass began, so before it is doubled
-      pub accepted_current : s.counters.phase ≡ transient_phase → accepts (tried_by (attempt_of k) k.job s).report ≡ true
+      pub accepted_current : s.counters.phase ≡ Transient → accepts (tried_by (attempt_of k) k.job s).report ≡ true
           → get_or passed.buffers.memory i nan ≡ current_after henries s.counters.step (across passed.buffers.vector a.0 b.0) before
       unfolding current_in
       accepted_current h r =
-          let t : s.counters.phase ≡ dc_phase → ⊥ = λ q. omega (arith, h, q) in
+          let t : s.counters.phase ≡ Dc → ⊥ = λ q. transient_not_dc (sym h ∙ q) in
           let v : passed.buffers.vector ≡ solved.vector = ap (λ (x : State). x.buffers.vector) (pass_step (attempt_of k) k.job s t h) ∙ step_vector in
           ap (λ (y : List Float). get_or y i nan) (machine.accepted_takes (attempt_of k) k.job s h r)
-          ∙ rw v (rw (ne_eqb _ _ t) at takes_its)
+          ∙ rw v (rw (ap is_dc h) at takes_its)
 
       -- DC that has ended with 0, 20 or 21: the unknown of its row, whatever number that is
-      pub dc_current : s.counters.phase ≡ dc_phase → DcEnds passed.counters → get_or passed.buffers.memory i nan ≡ get_or passed.buffers.vector (row_of k.job.nodes n) nan
+      pub dc_current : s.counters.phase ≡ Dc → DcEnds passed.counters → get_or passed.buffers.memory i nan ≡ get_or passed.buffers.vector (row_of k.job.nodes n) nan
       unfolding current_in
       dc_current h r =
           let v : passed.buffers.vector ≡ solved.vector = ap (λ (x : State). x.buffers.vector) (pass_dc (attempt_of k) k.job s h) ∙ dc_vector in
           ap (λ (y : List Float). get_or y i nan) (machine.dc_takes (attempt_of k) k.job s h r)
-          ∙ rw v (rw (eq-eqb _ _ h) at takes_its)
+          ∙ rw v (rw (ap is_dc h) at takes_its)
 
   -- ---- a circuit without inductors
 

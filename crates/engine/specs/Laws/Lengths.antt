@@ -19,7 +19,7 @@ use Rattle.groups.specs.Stamping.{base_of, stamp_of}
 use Rattle.groups.specs.Laws.Stamping.{fine, memory_stays}
 use Rattle.groups.specs.Laws.Storage.{taken-length, taken_elsewhere}
 use Rattle.steps.specs.declared.Counters.{Counters}
-use Rattle.steps.specs.Phases.{dc_phase, transient_phase}
+use Rattle.steps.specs.Phases.{is_dc, is_transient}
 use Rattle.steps.specs.declared.Job.{Job}
 use Rattle.groups.specs.declared.Pass.{Pass}
 use Rattle.machine.specs.State.{Buffers, buffers_of, State, Solved}
@@ -103,7 +103,7 @@ module _ (k : Circuit) (y : List Float) where
 
     pass_held : (s : State) → Holds s.buffers → Holds (pass (attempt_of k) j s).buffers
     unfolding pass dc_pass step_pass
-    pass_held s h = go (eqb s.counters.phase dc_phase) (eqb s.counters.phase transient_phase)
+    pass_held s h = go (is_dc s.counters.phase) (is_transient s.counters.phase)
       where
         either : (b : Bool) (u v : State) → Holds u.buffers → Holds v.buffers → Holds (cond b u v).buffers
         either true u v p q = p

@@ -4,8 +4,8 @@ use Rattle.std.specs.Prelude.{ℕ, ◌+◌, ◌≤◌, ◌≡◌, length, take}
 use Rattle.std.proofs.lemmas.List.{length-replicate}
 use Rattle.std.proofs.Common.{arith}
 use Rattle.num.specs.Floats.{nought}
-use Rattle.numbers.specs.Verdicts.{budget_spent}
-use Rattle.sheet.specs.declared.Checked.TheVariants.{Clean}
+use Rattle.numbers.specs.declared.verdict.Verdict.TheVariants.{BudgetSpent}
+use Rattle.std.specs.declared.result.Result.TheVariants.{Ok, Err}
 use Rattle.checks.specs.Checks.{order, records}
 use Rattle.checks.specs.Laws.Checks.{fine, clean_fine}
 use Rattle.steps.specs.Counters.{top, verdict_of}
@@ -34,7 +34,7 @@ module _ (c : Call) where
   unfolding end_of
   ends = one_verdict tries c.job budget start (begins_told c.job.transient)
 
-  module _ (clean : checked_call c ≡ Clean) where
+  module _ (clean : checked_call c ≡ Ok tt) where
     small : 0 + budget ≤ top
     small = omega (arith, (fine c.job.options (sizes c) (clean_fine c.job.options (sizes c) c.sheet clean).0).spent)
 
@@ -46,7 +46,7 @@ module _ (c : Call) where
         omega (arith, within tries c.job budget start, u)
 
     -- and with 24 they are the budget
-    pub budget_spent_lem : verdict_of (last_of c).counters ≡ budget_spent → (last_of c).counters.passes ≡ budget
+    pub budget_spent_lem : verdict_of (last_of c).counters ≡ BudgetSpent → (last_of c).counters.passes ≡ budget
     unfolding end_of
     budget_spent_lem e =
         let p = passes_at_24 tries c.job budget start (begins_told c.job.transient) small

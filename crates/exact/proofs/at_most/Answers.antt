@@ -1,23 +1,16 @@
 -- `exact::at_most` meets its contract.
-use Rattle.std.proofs.Common.{◌≡◌, ℕ, drop, sym, ◌∙◌, subst, le_of_lt, arith, le-leb}
-use borrow.Author.Tests.{lt-leb}
+use Rattle.std.proofs.Common.{◌≡◌, ℕ, drop, sym, ◌∙◌, subst, arith, le-leb}
 use Rattle.exact.specs.Limbs.{value}
-use Rattle.exact.proofs.Order.{none_past, first_less, second_less, same}
+use Rattle.exact.proofs.Order.{none_past, decided, same}
 use Rattle.exact.proofs.at_most.Goals as goal
 
 pub loop-i-init : goal.loop-i-init
-loop-i-init c =
-    none_past c.args.a.now c.longer-i.result c.longer-i.ensures.0 ∙ sym (none_past c.args.b.now c.longer-i.result c.longer-i.ensures.1)
+loop-i-init c = none_past c.args.a.now c.max-i.result (omega arith) ∙ sym (none_past c.args.b.now c.max-i.result (omega arith))
 
 pub returns-then-p-q : goal.returns-then-p-q
 returns-then-p-q c =
     let l = c.loop-i in
-    sym (le-leb _ _ (le_of_lt (first_less c.args.a.now c.args.b.now l.i (omega arith) l.invariant (λ j. (c.shared_slice_known-1.given j).fits) (omega arith))))
-
-pub returns-then-q-p : goal.returns-then-q-p
-returns-then-q-p c =
-    let l = c.loop-i in
-    sym (lt-leb _ _ (second_less c.args.a.now c.args.b.now l.i (omega arith) l.invariant (λ j. (c.shared_slice_known-2-1.given j).fits) (omega arith)))
+    rw (c.limb-p.ensures, c.limb-q.ensures) (decided c.args.a.now c.args.b.now l.i (omega arith) l.invariant (λ j. (c.type_inv.a j).fits) (λ j. (c.type_inv.b j).fits) (λ e. c.if-p-q.true (c.limb-p.ensures ∙ e ∙ sym c.limb-q.ensures)))
 
 pub loop-i-preserved : goal.loop-i-preserved
 loop-i-preserved c =

@@ -5,6 +5,3 @@ use Rattle.exact.proofs.at_most.Given as goal
 
 abbrev pub invariant-loop-i : goal.invariant-loop-i
 invariant-loop-i l = value (drop l.i l.a) ≡ value (drop l.i l.b)
-
-abbrev pub decreases-loop-i : goal.decreases-loop-i
-decreases-loop-i l = l.i

@@ -17,9 +17,9 @@ parts_of-requires-2 c = one-finite
 
 pub add_size-requires : goal.add_size-requires
 add_size-requires c =
-    let w = c.copied-sum.ensures in
+    let w = c.widened-sum.ensures in
     (c.parts_of.ensures.1, c.parts_of-2.ensures.1, wide_roomy _ w.limbs (rw w.same (row_under c.args.a.now c.requires.0 (λ j. (c.shared_slice_known-1.given j).fits))))
 
 pub returns : goal.returns
 returns c =
-    c.at_most.ensures ∙ ap (λ (n : ℕ). leb (value c.args.b.now) n) (c.add_size.ensures.sum ∙ (λ i. c.copied-sum.ensures.same i + c.parts_of.ensures.0 i * c.parts_of-2.ensures.0 i))
+    c.at_most.ensures ∙ ap (λ (n : ℕ). leb (value c.args.b.now) n) (c.add_size.ensures.sum ∙ (λ i. c.widened-sum.ensures.same i + c.parts_of.ensures.0 i * c.parts_of-2.ensures.0 i))

@@ -1,5 +1,5 @@
--- The laws by which a caller follows a sum of many terms in two rows. Clients cite Factor, row_length, no_terms, exchanged, not_cut, one_more_lem, one_float, is_within.
-use Rattle.std.specs.Prelude.{◌≡◌, ℕ, ◌+◌, ◌-◌, ◌*◌, ◌^◌, ◌<◌, ◌≤◌, Bool, true, false, cond, T, List, length, Float}
+-- The laws by which a caller follows a sum of many terms in two rows. Clients cite Factor, one_factor, row_length, no_terms, exchanged, not_cut, is_kept, one_more_lem, one_float, is_within.
+use Rattle.std.specs.Prelude.{◌≡◌, ℕ, ◌+◌, ◌-◌, ◌*◌, ◌^◌, ◌<◌, ◌≤◌, Bool, true, false, cond, T, List, length, Float, Result, Ok, IsOk, ⊤}
 use Rattle.std.proofs.Common.{sym, ◌∙◌, lt_of_le_of_lt, le_trans, mul-le-mul, mul-le-mul_right, lit<, lit≤}
 use Rattle.std.proofs.Math.Path.{ap, subst}
 use native.Mathlib.Omega.{arith}
@@ -18,7 +18,7 @@ use Rattle.exact.specs.Exact.{Exact, units, none, times, whole, added, opposite,
 use Rattle.exact.specs.Laws.Units.{units_few}
 use Rattle.exact.specs.Rows.{cap}
 use Rattle.exact.specs.Kept.{Rows, rows_of, check_of, kept_of, within_of}
-use Rattle.exact.specs.declared.Kept.{Kept}
+use Rattle.exact.specs.declared.Unkept.{Unkept}
 use Rattle.exact.specs.Sums.{Sums}
 
 -- a number that fits binary64 and is finite: what may be a factor
@@ -45,7 +45,7 @@ cond_few : (b : Bool) (n : ℕ) → n ≤ cap → (cond b 0 n ≤ cap) × (cond 
 cond_few true n h = (omega arith, h)
 cond_few false n h = (h, omega arith)
 
-one_factor : Factor one
+pub one_factor : Factor one
 unfolding of_bits of_fields odd count_trailing_zeros fits
 one_factor = (tt, tt)
 
@@ -68,17 +68,28 @@ module _ (k : ℕ) (e : Exact) (p m : List ℕ) (s : Sums k e p m) where
   pub not_cut : k ≤ 2 ^ 27 → (value p ≡ e.plus) × (value m ≡ e.minus)
   not_cut h = (held_is e.plus p s.plus_row (top k e.plus h s.plus_few), held_is e.minus m s.minus_row (top k e.minus h s.minus_few))
 
-  -- fewer than 2 ^ 27 terms: one more is added
-  pub one_more_lem : (x y : Float) (r : Kept) (p' m' : List ℕ) → k < 2 ^ 27 → Factor x → Factor y
-      → rows_of r p' m' ≡ kept_of p m x y → Sums (k + 1) (added e (times x y)) p' m'
-  unfolding kept_of check_of
-  one_more_lem x y r p' m' h X Y q =
+  -- fewer than 2 ^ 27 terms: nothing stands against one more
+  free : (x y : Float) → k < 2 ^ 27 → Factor x → Factor y → check_of p m x y ≡ Ok tt
+  unfolding check_of
+  free x y h X Y =
       let a : value p ≡ e.plus = (not_cut (omega arith)).0 in
       let b : value m ≡ e.minus = (not_cut (omega arith)).1 in
       let c : value p < 2 ^ 4223 = subst (λ (n : ℕ). n < 2 ^ 4223) (sym a) (under k e.plus h s.plus_few) in
       let d : value m < 2 ^ 4223 = subst (λ (n : ℕ). n < 2 ^ 4223) (sym b) (under k e.minus h s.minus_few) in
+      rw (eq-eqb (length p) 66 (row_length e.plus p s.plus_row), eq-eqb (length m) 66 (row_length e.minus m s.minus_row), is_true (finite x) X.1, is_true (finite y) Y.1, lt-ltb (value p) (2 ^ 4223) c, lt-ltb (value m) (2 ^ 4223) d)
+
+  -- so it is never refused
+  pub is_kept : (x y : Float) (r : Result ⊤ Unkept) (p' m' : List ℕ) → k < 2 ^ 27 → Factor x → Factor y → rows_of r p' m' ≡ kept_of p m x y → IsOk r
+  unfolding kept_of
+  is_kept x y r p' m' h X Y q = let e : r ≡ Ok tt = ap (λ (w : Rows). w.answer) (rw (free x y h X Y) at q) in rw e
+
+  -- but added
+  pub one_more_lem : (x y : Float) (r : Result ⊤ Unkept) (p' m' : List ℕ) → k < 2 ^ 27 → Factor x → Factor y
+      → rows_of r p' m' ≡ kept_of p m x y → Sums (k + 1) (added e (times x y)) p' m'
+  unfolding kept_of
+  one_more_lem x y r p' m' h X Y q =
       let f = cond_few (unlike (sign x) (sign y)) (units x * units y) (product_few x y X Y) in
-      let z = rw (eq-eqb (length p) 66 (row_length e.plus p s.plus_row), eq-eqb (length m) 66 (row_length e.minus m s.minus_row), is_true (finite x) X.1, is_true (finite y) Y.1, lt-ltb (value p) (2 ^ 4223) c, lt-ltb (value m) (2 ^ 4223) d, a, b) at q in
+      let z = rw (free x y h X Y, (not_cut (omega arith)).0, (not_cut (omega arith)).1) at q in
       record {
         plus_row = ap (λ (w : Rows). w.plus) z;
         minus_row = ap (λ (w : Rows). w.minus) z;
@@ -89,7 +100,7 @@ module _ (k : ℕ) (e : Exact) (p m : List ℕ) (s : Sums k e p m) where
       go : (v n j c : ℕ) → v ≤ j * c → n ≤ c → v + n ≤ (j + 1) * c
       go v n j c u w = omega arith
 
-  pub one_float : (x : Float) (r : Kept) (p' m' : List ℕ) → k < 2 ^ 27 → Factor x
+  pub one_float : (x : Float) (r : Result ⊤ Unkept) (p' m' : List ℕ) → k < 2 ^ 27 → Factor x
       → rows_of r p' m' ≡ kept_of p m x one → Sums (k + 1) (added e (whole x)) p' m'
   one_float x r p' m' h X q = one_more_lem x one r p' m' h X one_factor q
 

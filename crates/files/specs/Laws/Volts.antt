@@ -6,8 +6,8 @@ use borrow.Author.Tests.{not-true}
 use Rattle.numbers.specs.Kinds.{diode}
 use Rattle.sheet.specs.declared.Element.{Element}
 use Rattle.sheet.specs.declared.Element.TheVariants.{R, I, «V», D, Isin, Vsin, Vpwl, C, Vcvs, Vccs, L}
-use Rattle.sheet.specs.declared.Decoded.{Decoded}
-use Rattle.sheet.specs.declared.Decoded.TheVariants.{Good, Refused}
+use Rattle.sheet.specs.Record.{Decoded}
+use Rattle.std.specs.declared.result.Result.TheVariants.{Ok, Err}
 use Rattle.sheet.specs.Kind.{kind_of}
 use Rattle.groups.specs.Records.{record_in, on_record}
 use Rattle.groups.specs.Laws.Passing.{Quiet}
@@ -45,8 +45,8 @@ module _ (reltol vntol : Float) (x : List Float) (y : Float) where
   of_element (L a b v s) h = absurd (false≢true h)
 
   of_record : (d : Decoded) → on_record (diode_behind reltol vntol x y) false d ≡ true → caught_up_of reltol vntol (on_record (across_in x) (from_bits binary64 0) d) y ≡ false
-  of_record (Good e) h = of_element e h
-  of_record (Refused k) h = absurd (false≢true h)
+  of_record (Ok e) h = of_element e h
+  of_record (Err k) h = absurd (false≢true h)
 
 -- Where record i's diode is behind, what is told of it is why.
 pub volts_behind :

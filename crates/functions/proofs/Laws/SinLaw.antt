@@ -1,5 +1,5 @@
 -- sin's answer keeps its bound at every finite x. Assumes nothing.
-use Rattle.std.specs.Prelude.{◌≡◌, ℕ, zero, suc, ◌+◌, ◌-◌, ◌*◌, ◌/◌, ◌%◌, ◌^◌, ◌<◌, ◌≤◌, Bool, true, false, cond, not, T, ◌==◌, from_bits, nat_eq, nat_le, nat_lt, refl, Float}
+use Rattle.std.specs.Prelude.{◌≡◌, ℕ, zero, suc, ◌+◌, ◌-◌, ◌*◌, ◌/◌, ◌%◌, ◌^◌, ◌<◌, ◌≤◌, Bool, true, false, cond, not, T, ◌==◌, from_bits, nat_eq, nat_le, nat_lt, refl, Option, Some, None, Float}
 use Rattle.std.proofs.Common.{sym, ◌∙◌, le_trans, le_of_lt, mul-le-mul, mul-le-mul_right, le_of_mul-le-mul_right, div-mul-le_self, div-lt_iff_lt-mul, lt_of_lt_of_le, lt_of_le_of_lt, lt_of_mul-lt-mul_right, mul_assoc, mul_comm, mod-lt, ltb→lt, leb→le, lit<, lit≤, pow-add, pow_pos, pow_mono, le-leb}
 use Rattle.std.proofs.Math.Path.{ap, subst}
 use Rattle.std.proofs.Math.Nat.{lt-div-mul-add, div-le_of_le-mul, div-eq_of_lt}
@@ -10,13 +10,11 @@ use Rattle.std.specs.Float.Ieee.{binary64, unlike, neg, up, down, size}
 use Rattle.std.specs.Float.Ieee.Scale.{finite}
 use Rattle.std.specs.Float.Ieee.Digits.{size-lt, size-le}
 use Rattle.std.specs.Float.Ieee.Positive.{num, den, den_pos}
-use Rattle.functions.specs.declared.Sine.{Sine}
-use Rattle.functions.specs.declared.Sine.TheVariants.{Value, Refused}
 use Rattle.num.specs.Floats.{sign}
 use Rattle.functions.specs.Fraction.{Fraction, Within, FiniteWithin, sum_of, kept, alternating, negated}
 use Rattle.functions.specs.Reduction.{left_of, below_of, k_of, f_top, f_bottom, f_minus}
 use Rattle.functions.specs.Words.{falling, upper, packed}
-use Rattle.functions.specs.Sin.{quarter, sine_words, cosine_words, sine_word, cosine_word, wave_word, wave_side, small_size, sin_small, sin_large, sin_near, sin_of, pick, sine_refusal, number_of, SinRange, sine_terms, cosine_terms, sine_sum, cosine_sum, quadrant, wave}
+use Rattle.functions.specs.Sin.{quarter, sine_words, cosine_words, sine_word, cosine_word, wave_word, wave_side, small_size, sin_small, sin_large, sin_near, sin_of, sine_refusal, number_of, SinRange, sine_terms, cosine_terms, sine_sum, cosine_sum, quadrant, wave}
 use Rattle.functions.specs.Laws.Product.{square_low, square_high, times_low, times_high}
 use Rattle.functions.specs.Laws.Horner.{Near, falling_near}
 use Rattle.functions.specs.Laws.Packed.{Cut, cut, room}
@@ -372,14 +370,14 @@ near_close x f = go (nat_lt (4 * num x) (den x)) (ltb→lt (4 * num x) (den x))
     go true y = small_close x f (y tt)
     go false y = large_close x
 
-taken : (x : Float) → T (finite x) → num x ≤ 2 ^ 20 * den x → sin_of x ≡ Value (sin_near x)
+taken : (x : Float) → T (finite x) → num x ≤ 2 ^ 20 * den x → sin_of x ≡ Some (sin_near x)
 unfolding sin_of
 taken nan f h = absurd f
 taken (inf s) f h = absurd f
-taken (fin s m e) f h = ap (λ (b : Bool). pick b (Value (sin_near (fin s m e))) Refused) (le-leb (m * up e) (2 ^ 20 * down e) h)
+taken (fin s m e) f h = ap (λ (b : Bool). cond b (Some (sin_near (fin s m e))) None) (le-leb (m * up e) (2 ^ 20 * down e) h)
 
-pub in_range : (x : Float) → SinRange x → sin_of x ≡ Value (sin_near x)
+pub in_range : (x : Float) → SinRange x → sin_of x ≡ Some (sin_near x)
 in_range x r = taken x r.number r.most
 
 pub close : (x : Float) → SinRange x → (sine_refusal (sin_of x) ≡ 0) × FiniteWithin 40 (number_of (sin_of x)) (wave (quadrant x) (f_minus quarter x) (f_top quarter x) (f_bottom x))
-close x r = subst (λ (y : Sine). (sine_refusal y ≡ 0) × FiniteWithin 40 (number_of y) (wave (quadrant x) (f_minus quarter x) (f_top quarter x) (f_bottom x))) (sym (in_range x r)) (refl, near_close x r.number)
+close x r = subst (λ (y : Option Float). (sine_refusal y ≡ 0) × FiniteWithin 40 (number_of y) (wave (quadrant x) (f_minus quarter x) (f_top quarter x) (f_bottom x))) (sym (in_range x r)) (refl, near_close x r.number)

@@ -1,7 +1,6 @@
 -- `functions::sin` meets its contract. Assumes nothing.
-use Rattle.std.proofs.Common.{sym, ap, ◌∙◌}
+use Rattle.std.proofs.Common.{sym, ap, ◌∙◌, Some}
 use lib.Ieee.{of_bits, neg}
-use Rattle.functions.specs.declared.Sine.TheVariants.{Value}
 use Rattle.functions.proofs.Ends.{sin_above, sin_below, sin_nan, sin_in_range}
 use Rattle.functions.proofs.Laws.SinLaw.{in_range}
 use Rattle.functions.proofs.sin.Goals as goal
@@ -25,4 +24,4 @@ pub returns : goal.returns
 unfolding of_bits neg
 returns c =
     let x = c.args.x in
-    ap Value c.sin_near.ensures ∙ sym (in_range x (sin_in_range x c.if-x-3.false c.if-x.false c.if-x-2.false))
+    ap Some c.sin_near.ensures ∙ sym (in_range x (sin_in_range x c.if-x-3.false c.if-x.false c.if-x-2.false))

@@ -1,5 +1,5 @@
 -- The values of exp, ln and sin that no bound speaks of: at NaN, the infinities and the zeros, outside the ranges, and at 1 for ln. Clients cite them.
-use Rattle.std.specs.Prelude.{◌≡◌, ℕ, suc, ◌*◌, ◌^◌, ◌<◌, Bool, true, false, cond, T, ℤ, pos, negsuc, refl, Float}
+use Rattle.std.specs.Prelude.{◌≡◌, ℕ, suc, ◌*◌, ◌^◌, ◌<◌, Bool, true, false, cond, T, ℤ, pos, negsuc, refl, Some, None, Float}
 use Rattle.std.proofs.Common.{ap, ◌∙◌}
 use Rattle.std.proofs.Math.Dec.{eqb-suc-zero}
 use Rattle.std.specs.Int.Count.{count_leading_zeros}
@@ -8,12 +8,11 @@ use Rattle.std.specs.Float.Ieee.{lt, of_bits, size, up, down}
 use Rattle.std.specs.Float.Ieee.Scale.{finite}
 use Rattle.std.specs.Float.Ieee.Positive.{num, den}
 use Rattle.std.proofs.lemmas.Bool.{lt-leb}
-use Rattle.functions.specs.declared.Sine.TheVariants.{Value, Refused}
 use Rattle.functions.specs.Reduction.{nearest_of, left_of, below_of}
 use Rattle.functions.specs.Words.{horner, rounded, packed}
 use Rattle.functions.specs.Exp.{fixed_exp, exp_size, exp_finite, exp_of, highest, lowest}
 use Rattle.functions.specs.Ln.{ln_word, z_word, ln_size, ln_answer, ln_positive, ln_of}
-use Rattle.functions.specs.Sin.{sin_small, sin_near, sin_of, pick, sine_refusal}
+use Rattle.functions.specs.Sin.{sin_small, sin_near, sin_of, sine_refusal}
 
 abbrev nought : Bool → Float
 nought s = fin s 0 (pos 0)
@@ -77,25 +76,25 @@ ln_nan = refl
 -- ---- sin
 
 -- sin of a zero is that zero
-pub sin_zero : (s : Bool) → sin_of (nought s) ≡ Value (nought s)
+pub sin_zero : (s : Bool) → sin_of (nought s) ≡ Some (nought s)
 unfolding sin_of sin_near sin_small size
 sin_zero true = refl
 sin_zero false = refl
 
-pub sin_nan : sin_of nan ≡ Value nan
+pub sin_nan : sin_of nan ≡ Some nan
 unfolding sin_of
 sin_nan = refl
 
-pub sin_infinity : (s : Bool) → sin_of (inf s) ≡ Value nan
+pub sin_infinity : (s : Bool) → sin_of (inf s) ≡ Some nan
 unfolding sin_of
 sin_infinity s = refl
 
 -- finite and beyond 2 ^ 20 in size: refused by 12
-pub sin_refused : (x : Float) → T (finite x) → 2 ^ 20 * den x < num x → sin_of x ≡ Refused
+pub sin_refused : (x : Float) → T (finite x) → 2 ^ 20 * den x < num x → sin_of x ≡ None
 unfolding sin_of
 sin_refused nan f h = absurd f
 sin_refused (inf s) f h = absurd f
-sin_refused (fin s m e) f h = ap (λ (b : Bool). pick b (Value (sin_near (fin s m e))) Refused) (lt-leb (m * up e) (2 ^ 20 * down e) h)
+sin_refused (fin s m e) f h = ap (λ (b : Bool). cond b (Some (sin_near (fin s m e))) None) (lt-leb (m * up e) (2 ^ 20 * down e) h)
 
 -- 2 ^ 20 runs, and the next float is refused
 pub sin_edge : (sine_refusal (sin_of (fin false 1 (pos 20))) ≡ 0) × (sine_refusal (sin_of (fin false 4503599627370497 (negsuc 31))) ≡ 12)

@@ -4,4 +4,4 @@ use Rattle.groups.proofs.stamp_base.Goals as goal
 
 pub returns : goal.returns
 unfolding base_of
-returns c = rw (← c.fill.ensures) c.stamp_base.ensures
+returns c = rw (← c.fill.ensures.after (λ y e. e)) c.stamp_base.ensures

@@ -14,9 +14,9 @@ use Rattle.numbers.specs.Limits.{most_records}
 use Rattle.options.specs.declared.Options.{Options}
 use Rattle.loops.specs.Loop.{turns}
 use Rattle.loops.specs.Laws.Loop.{turns_ext, turns-add, store_next}
-use Rattle.sheet.specs.declared.Decoded.{Decoded}
-use Rattle.sheet.specs.declared.Decoded.TheVariants.{Good, Refused}
-use Rattle.sheet.specs.Record.{record_at, kind_at, diode_of, element_of, uses_of, rest_zero, if_zero, decode_of}
+use Rattle.numbers.specs.declared.refusal.Refusal.{Refusal}
+use Rattle.std.specs.declared.result.Result.TheVariants.{Ok, Err}
+use Rattle.sheet.specs.Record.{Decoded, record_at, kind_at, diode_of, element_of, uses_of, rest_zero, if_zero, decode_of}
 use Rattle.sheet.specs.Check.{records_of}
 use Rattle.groups.specs.Records.{element_at, on_record, outside, record_in}
 use Rattle.groups.specs.Diodes.{Stamped, stamped_of, biased, biased_at, diodes_of}
@@ -35,20 +35,20 @@ only_diode k h = by_test (ltb k diode) refl h
     by_test false e t = le_antisymm (ltb-false diode k t) (ltb-false k diode e)
 
 -- a record of a diode's kind that decodes is a diode
-decodes : (r : List ℕ) → get_or r 0 0 ≡ diode → good_of (decode_of r) ≡ true → decode_of r ≡ Good (diode_of r)
+decodes : (r : List ℕ) → get_or r 0 0 ≡ diode → good_of (decode_of r) ≡ true → decode_of r ≡ Ok (diode_of r)
 unfolding decode_of element_of
 decodes r k h = rw k (by_rest (rest_zero (uses_of diode) r) (rw k at h))
   where
-    by_rest : (b : Bool) → good_of (if_zero b (Good (diode_of r))) ≡ true → if_zero b (Good (diode_of r)) ≡ Good (diode_of r)
+    by_rest : (b : Bool) → good_of (if_zero b (Ok (diode_of r))) ≡ true → if_zero b (Ok (diode_of r)) ≡ Ok (diode_of r)
     by_rest true t = refl
     by_rest false t = absurd (false≢true t)
 
 module _ (sheet : List ℕ) (i : ℕ) where
-  found_diode : diode_in sheet i ≡ true → record_in diode diode sheet i ≡ Good (diode_of (record_at sheet i))
+  found_diode : diode_in sheet i ≡ true → record_in diode diode sheet i ≡ Ok (diode_of (record_at sheet i))
   unfolding diode_in record_in
   found_diode h = by_kind_lem (outside diode diode (kind_at sheet i)) refl h
     where
-      by_kind_lem : (b : Bool) → outside diode diode (kind_at sheet i) ≡ b → good_of (cond b (Refused 0) (element_at sheet i)) ≡ true → cond b (Refused 0) (element_at sheet i) ≡ Good (diode_of (record_at sheet i))
+      by_kind_lem : (b : Bool) → outside diode diode (kind_at sheet i) ≡ b → good_of (cond b (Err Refusal.Kind) (element_at sheet i)) ≡ true → cond b (Err Refusal.Kind) (element_at sheet i) ≡ Ok (diode_of (record_at sheet i))
       by_kind_lem true e t = absurd (false≢true t)
       by_kind_lem false e t = decodes (record_at sheet i) (only_diode (kind_at sheet i) e) t
 
@@ -62,8 +62,8 @@ module _ (sheet : List ℕ) (i : ℕ) where
     read_diode h = rw (← within, found_diode h)
 
     nothing : (d : Decoded) → good_of d ≡ false → on_record (biased o n x i s.matrix s.memory) (stamped_of 0 s.matrix s.memory) d ≡ stamped_of 0 s.matrix s.memory
-    nothing (Good e) h = absurd (false≢true (sym h))
-    nothing (Refused k) h = refl
+    nothing (Ok e) h = absurd (false≢true (sym h))
+    nothing (Err k) h = refl
 
     -- any other record changes nothing
     pub no_diode : diode_in sheet i ≡ false → biased_at o sheet n x i s ≡ s

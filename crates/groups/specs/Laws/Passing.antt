@@ -3,9 +3,8 @@ use Rattle.std.specs.Prelude.{ℕ, ◌≡◌, refl, Bool, true, false, List}
 use Rattle.std.proofs.Common.{sym, ap, ◌∙◌, ⊎_elim, arith, lt-ltb, le-ltb}
 use Rattle.loops.specs.Laws.Loop.{three}
 use Rattle.sheet.specs.declared.Element.{Element}
-use Rattle.sheet.specs.declared.Decoded.{Decoded}
-use Rattle.sheet.specs.declared.Decoded.TheVariants.{Good, Refused}
-use Rattle.sheet.specs.Record.{kind_at}
+use Rattle.std.specs.declared.result.Result.TheVariants.{Ok, Err}
+use Rattle.sheet.specs.Record.{Decoded, kind_at}
 use Rattle.sheet.specs.Kind.{kind_of}
 use Rattle.sheet.specs.Laws.Kind.{kind_at_lem}
 use Rattle.groups.specs.Records.{element_at, on_record, unless, outside, record_in}
@@ -27,8 +26,8 @@ Quiet low high f x = Silent (outside low high) f x
 
 module _ {X : Type 0} (skip : ℕ → Bool) (sheet : List ℕ) (i : ℕ) (f : Element → X) (x : X) (silent : Silent skip f x) where
   pub passed : skip (kind_at sheet i) ≡ true → (d : Decoded) → element_at sheet i ≡ d → x ≡ on_record f x d
-  passed h (Good e) g = sym (silent e (ap skip (sym (kind_at_lem sheet i e g)) ∙ h))
-  passed h (Refused k) g = refl
+  passed h (Ok e) g = sym (silent e (ap skip (sym (kind_at_lem sheet i e g)) ∙ h))
+  passed h (Err k) g = refl
 
   pub passed_by : on_record f x (unless skip sheet i) ≡ on_record f x (element_at sheet i)
   passed_by = by_kind_lem (skip (kind_at sheet i)) refl

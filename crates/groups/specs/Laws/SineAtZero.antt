@@ -1,6 +1,6 @@
 -- At time 0.0 no source ends the stamping, since no sine is refused there; and so in DC a pass is stamped whole, or ended by a diode with 22.
 -- Clients cite independent_in_dc, linear_in_dc and stamp_in_dc. Assumes nothing.
-use Rattle.std.specs.Prelude.{ℕ, ◌≡◌, ◌⊎◌, false, List, Float}
+use Rattle.std.specs.Prelude.{ℕ, ◌≡◌, ◌⊎◌, false, List, Option, Some, None, Float}
 use Rattle.std.proofs.Math.Path.{refl}
 use Rattle.std.proofs.Common.{arith, eq-eqb}
 use Rattle.numbers.specs.Verdicts.{settled, diode_current}
@@ -15,8 +15,6 @@ use Rattle.stamps.specs.Write.{Write}
 use Rattle.stamps.specs.Kinds.{current_writes, voltage_writes}
 use Rattle.models.specs.Sine.{sine_at, numbers_of}
 use Rattle.models.specs.Laws.SineAtZero.{sine_at_zero}
-use Rattle.models.specs.declared.sine.Level.{Level}
-use Rattle.models.specs.declared.sine.Level.TheVariants.{Value, Refused}
 use Rattle.groups.specs.declared.Pass.{Pass}
 use Rattle.groups.specs.Records.{element_at}
 use Rattle.groups.specs.Sources.{Driven, driven_of, source_time, levelled, driven, driven_at, independent_of}
@@ -29,9 +27,9 @@ use Rattle.groups.specs.Laws.Stamping.{on_record_lem, diodes_fine}
 abbrev Whole : Driven → Type 0
 Whole x = x.code ≡ 0
 
-level_whole : (n : ℕ) (f : Float → List Write) (l : Level) (m : List Float) → (numbers_of l).verdict ≡ settled → Whole (levelled n f l m)
-level_whole n f (Value x) m h = refl
-level_whole n f Refused m h = absurd (omega arith)
+level_whole : (n : ℕ) (f : Float → List Write) (l : Option Float) (m : List Float) → (numbers_of l).verdict ≡ settled → Whole (levelled n f l m)
+level_whole n f (Some x) m h = refl
+level_whole n f None m h = absurd (omega arith)
 
 -- ---- a pass of DC, whose time is 0.0
 

@@ -1,6 +1,6 @@
 -- Laws of a pass's stamping: no length changes, its verdicts are 0, 22 and 26, and the memory of a record that is no diode stays. Assumes nothing.
 -- Clients cite Fine, fine and memory_stays; a further law of stamping on_record_lem, diodes_fine and diodes_leave.
-use Rattle.std.specs.Prelude.{ℕ, ◌≡◌, ◌⊎◌, Bool, List, length, Float}
+use Rattle.std.specs.Prelude.{ℕ, ◌≡◌, ◌⊎◌, Bool, List, length, Option, Some, None, Float}
 use Rattle.std.proofs.Math.Path.{refl}
 use Rattle.std.proofs.Common.{sym, ap, ◌∙◌, inr, ⊎_elim, eqb-true, length-set, get_or-set_other}
 use Rattle.std.proofs.Math.Logic.{inl}
@@ -16,9 +16,8 @@ use Rattle.loops.specs.Loop.{copied}
 use Rattle.loops.specs.Laws.Loop.{turns_inv, copied-length}
 use Rattle.sheet.specs.declared.Element.{Element}
 use Rattle.sheet.specs.declared.Element.TheVariants.{R, I, «V», D, Isin, Vsin, Vpwl, C, Vcvs, Vccs, L}
-use Rattle.sheet.specs.declared.Decoded.{Decoded}
-use Rattle.sheet.specs.declared.Decoded.TheVariants.{Good, Refused}
-use Rattle.sheet.specs.Record.{kind_at}
+use Rattle.std.specs.declared.result.Result.TheVariants.{Ok, Err}
+use Rattle.sheet.specs.Record.{Decoded, kind_at}
 use Rattle.sheet.specs.Kind.{kind_of}
 use Rattle.sheet.specs.Laws.Kind.{kind_at_lem}
 use Rattle.sheet.specs.Check.{records_of}
@@ -28,10 +27,7 @@ use Rattle.stamps.specs.Kinds.{current_writes, voltage_writes}
 use Rattle.stamps.specs.Laws.Write.{stamped-length}
 use Rattle.models.specs.Sine.{sine_at}
 use Rattle.models.specs.Diode.{linearized}
-use Rattle.models.specs.declared.sine.Level.{Level}
-use Rattle.models.specs.declared.sine.Level.TheVariants.{Value, Refused as NoLevel}
-use Rattle.models.specs.declared.diode.Linear.{Linear}
-use Rattle.models.specs.declared.diode.Linear.TheVariants.{Model, NotFinite}
+use Rattle.models.specs.declared.diode.Model.{Model}
 use Rattle.groups.specs.declared.Pass.{Pass}
 use Rattle.groups.specs.Records.{element_at, on_record, across}
 use Rattle.groups.specs.Plain.{dependent_of}
@@ -44,17 +40,17 @@ use Rattle.groups.specs.Laws.Quiet.{quiet_biased}
 
 -- what holds of every element's part, and where there is none, holds of a record's
 pub on_record_lem : {X : Type 0} (P : X → Type 0) (f : Element → X) (x : X) → ((e : Element) → P (f e)) → P x → (d : Decoded) → P (on_record f x d)
-on_record_lem P f x h k (Good e) = h e
-on_record_lem P f x h k (Refused r) = k
+on_record_lem P f x h k (Ok e) = h e
+on_record_lem P f x h k (Err r) = k
 
 -- ---- the independent sources: 0 or 26
 
 abbrev Sourced : List Float → Driven → Type 0
 Sourced m x = (length x.matrix ≡ length m) × ((x.code ≡ 0) ⊎ (x.code ≡ sine_refused))
 
-levelled_fine : (n : ℕ) (f : Float → List Write) (l : Level) (m : List Float) → Sourced m (levelled n f l m)
-levelled_fine n f (Value x) m = (stamped-length n (f x) m, inl refl)
-levelled_fine n f NoLevel m = (refl, inr refl)
+levelled_fine : (n : ℕ) (f : Float → List Write) (l : Option Float) (m : List Float) → Sourced m (levelled n f l m)
+levelled_fine n f (Some x) m = (stamped-length n (f x) m, inl refl)
+levelled_fine n f None m = (refl, inr refl)
 
 driven_fine : (w : Pass) (points : List ℕ) (m : List Float) (e : Element) → Sourced m (driven w points m e)
 unfolding driven
@@ -95,10 +91,10 @@ record Biased (i : ℕ) (m y : List Float) (s : Stamped) : Type 0 where
 untouched : (i : ℕ) (m y : List Float) → Biased i m y (stamped_of 0 m y)
 untouched i m y = record { matrix_length = refl; memory_length = refl; coded = inl refl; elsewhere = λ j h. refl }
 
-companion_fine : (n i a b : ℕ) (l : Linear) (m y : List Float) → Biased i m y (companion n i a b l m y)
-companion_fine n i a b (Model g c v) m y =
-    record { matrix_length = stamped-length n _ m; memory_length = length-set y i v; coded = inl refl; elsewhere = λ j h. get_or-set_other y i j v nan h }
-companion_fine n i a b NotFinite m y = record { matrix_length = refl; memory_length = refl; coded = inr refl; elsewhere = λ j h. refl }
+companion_fine : (n i a b : ℕ) (l : Option Model) (m y : List Float) → Biased i m y (companion n i a b l m y)
+companion_fine n i a b (Some l) m y =
+    record { matrix_length = stamped-length n _ m; memory_length = length-set y i l.memory; coded = inl refl; elsewhere = λ j h. get_or-set_other y i j l.memory nan h }
+companion_fine n i a b None m y = record { matrix_length = refl; memory_length = refl; coded = inr refl; elsewhere = λ j h. refl }
 
 biased_fine : (o : Options) (n : ℕ) (x : List Float) (i : ℕ) (m y : List Float) (e : Element) → Biased i m y (biased o n x i m y e)
 unfolding biased
@@ -136,8 +132,8 @@ module _ (o : Options) (sheet : List ℕ) (n : ℕ) (x : List Float) where
 -- the memory of record j, where that is no diode
 module _ (o : Options) (sheet : List ℕ) (n : ℕ) (x : List Float) (j : ℕ) (other : kind_at sheet j ≡ diode → ⊥) where
   not_diode : (m y : List Float) (d : Decoded) → element_at sheet j ≡ d → on_record (biased o n x j m y) (stamped_of 0 m y) d ≡ stamped_of 0 m y
-  not_diode m y (Good e) g = quiet_biased o n x j m y e (apart diode (kind_of e) (λ h. other (kind_at_lem sheet j e g ∙ h)))
-  not_diode m y (Refused k) g = refl
+  not_diode m y (Ok e) g = quiet_biased o n x j m y e (apart diode (kind_of e) (λ h. other (kind_at_lem sheet j e g ∙ h)))
+  not_diode m y (Err k) g = refl
 
   -- record i leaves it
   record_leaves : (i : ℕ) (m y : List Float) → get_or (on_record (biased o n x i m y) (stamped_of 0 m y) (element_at sheet i)).memory j nan ≡ get_or y j nan

@@ -19,9 +19,8 @@ use Rattle.sheet.specs.declared.NodeId.{NodeId}
 use Rattle.sheet.specs.declared.SourceId.{SourceId}
 use Rattle.sheet.specs.declared.Element.{Element}
 use Rattle.sheet.specs.declared.Element.TheVariants.{R, I, «V», D, Isin, Vsin, Vpwl, C, Vcvs, Vccs, L}
-use Rattle.sheet.specs.declared.Decoded.{Decoded}
-use Rattle.sheet.specs.declared.Decoded.TheVariants.{Good, Refused}
-use Rattle.sheet.specs.Record.{kind_at}
+use Rattle.std.specs.declared.result.Result.TheVariants.{Ok, Err}
+use Rattle.sheet.specs.Record.{Decoded, kind_at}
 use Rattle.sheet.specs.Kind.{kind_of}
 use Rattle.sheet.specs.Laws.Kind.{kind_at_lem}
 use Rattle.sheet.specs.Check.{records_of}
@@ -63,8 +62,8 @@ module _ (p : Pass) (x : List Float) (sheet : List ℕ) (y z : List Float) (same
   writes_same i (L a b v s) h = rw (h refl)
 
   record_same : (i : ℕ) (d : Decoded) → element_at sheet i ≡ d → on_record (storage_writes p x y i) [] d ≡ on_record (storage_writes p x z i) [] d
-  record_same i (Good e) g = writes_same i e (λ k. same i (kind_at_lem sheet i e g ∙ k))
-  record_same i (Refused k) g = refl
+  record_same i (Ok e) g = writes_same i e (λ k. same i (kind_at_lem sheet i e g ∙ k))
+  record_same i (Err k) g = refl
 
   records_same : (k : ℕ) → writes_of (storage_writes p x y) sheet k ≡ writes_of (storage_writes p x z) sheet k
   unfolding writes_of
@@ -91,8 +90,8 @@ no_current : (p : Pass) (sheet : List ℕ) (v : List Float) (i : ℕ) (y : List 
 no_current p sheet v i y h = go (element_at sheet i) refl
   where
     go : (d : Decoded) → element_at sheet i ≡ d → on_record (with_current p v i y) y d ≡ y
-    go (Good e) g = quiet_currents p v i y e (apart inductor (kind_of e) (λ k. h (kind_at_lem sheet i e g ∙ k)))
-    go (Refused k) g = refl
+    go (Ok e) g = quiet_currents p v i y e (apart inductor (kind_of e) (λ k. h (kind_at_lem sheet i e g ∙ k)))
+    go (Err k) g = refl
 
 -- what record i makes of a memory: its length stays, and every float but its own
 record Own (i : ℕ) (y z : List Float) : Type 0 where
@@ -124,8 +123,8 @@ module _ (p : Pass) (sheet : List ℕ) (v : List Float) where
   at_own i y = go (element_at sheet i)
     where
       go : (d : Decoded) → Own i y (on_record (with_current p v i y) y d)
-      go (Good e) = element_own p v i y e
-      go (Refused k) = own_same i y
+      go (Ok e) = element_own p v i y e
+      go (Err k) = own_same i y
 
   pub taken-length : (y : List Float) → length (taken_of p sheet v y) ≡ length y
   unfolding taken_of
@@ -158,7 +157,7 @@ module _ (p : Pass) (sheet : List ℕ) (v : List Float) where
   nothing_taken y h = none_taken y (records_of sheet) h
 
   -- an inductor has taken its current, by the formula of a step or as the unknown of its row
-  module _ (i : ℕ) (a b : NodeId) (henries : Float) (s : SourceId) (here : element_at sheet i ≡ Good (L a b henries s)) (y : List Float) where
+  module _ (i : ℕ) (a b : NodeId) (henries : Float) (s : SourceId) (here : element_at sheet i ≡ Ok (L a b henries s)) (y : List Float) where
     before_it : (k : ℕ) → k ≤ i → get_or (turns k (with_current_at p sheet v) y) i nan ≡ get_or y i nan
     before_it zero h = refl
     before_it (suc k) h = (at_own k (turns k (with_current_at p sheet v) y)).elsewhere i (λ q. omega (arith, h, q)) ∙ before_it k (omega (arith, h))
@@ -219,8 +218,8 @@ module _ (p : Pass) (x y : List Float) (sheet : List ℕ) where
   former_element i (L a b v s) h = absurd (h refl)
 
   former_record : (i : ℕ) → (kind_at sheet i ≡ inductor → ⊥) → (d : Decoded) → element_at sheet i ≡ d → on_record (storage_writes p x y i) [] d ≡ cond p.transient (on_record (former_writes p.order x p.step) [] d) []
-  former_record i h (Good e) g = former_element i e (λ q. h (kind_at_lem sheet i e g ∙ q))
-  former_record i h (Refused k) g = sym (either_same p.transient)
+  former_record i h (Ok e) g = former_element i e (λ q. h (kind_at_lem sheet i e g ∙ q))
+  former_record i h (Err k) g = sym (either_same p.transient)
 
   former_records : (k : ℕ) → inductor_among sheet k ≡ false → writes_of (storage_writes p x y) sheet k ≡ cond p.transient (writes_of (λ _. former_writes p.order x p.step) sheet k) []
   unfolding writes_of inductor_among

@@ -1,15 +1,19 @@
--- Exactly when the judge accepts, names a row, or refuses, over whole numbers. Clients cite refusal_is, accepts, accepts_only, rejects, rejects_only, accepted_numbers.
-use Rattle.std.specs.Prelude.{◌≡◌, Bool, true, false, List, ℕ, zero, suc, ◌+◌, ◌≤◌, ◌<◌, T, eqb, leb, Float}
+-- Exactly when the judge accepts, names a row, or refuses, over whole numbers. Clients cite refused_some, refusal_is, accepts, accepts_only, rejects, rejects_only, accepted_numbers.
+use Rattle.std.specs.Prelude.{◌≡◌, Bool, true, false, List, ℕ, zero, suc, ◌+◌, ◌≤◌, ◌<◌, T, eqb, leb, Float, Result, Ok, Err, ⊤}
+use Rattle.std.specs.Result.{result_and}
 use Rattle.std.proofs.Math.Path.{refl, ap}
 use Rattle.std.proofs.Common.{sym, ◌∙◌, subst}
 use Rattle.std.proofs.Math.Bool.{cond, and-eq-true_iff as both}
 use native.Mathlib.Omega.{arith}
-use borrow.Author.Tests.{eqb-true, eqb-false, leb-true, le-leb, eq-eqb}
+use borrow.Author.Tests.{eqb-true, eqb-false, leb-true, le-leb}
+use Rattle.numbers.specs.Refusals.{number_of, refused_by}
+use Rattle.numbers.specs.declared.refusal.Refusal.{Refusal}
+use Rattle.numbers.specs.declared.refusal.Refusal.TheVariants.{Order, Sheet, Points, Counts, Room, Kind, Unused, Node, Source, Pattern, Tolerance, Argument, Jobs}
 use Rattle.exact.specs.Exact.{Exact, size, within}
 use Rattle.judge.specs.Judge.{holds, named, judge_refusal, judge_of, numbers_of, Given}
 use Rattle.judge.specs.Laws.Judge.{FirstNot, AtMost, Within, FirstBeyond, no_refusal, no_refusal_only}
 use Rattle.judge.specs.declared.Judged.{Judged}
-use Rattle.judge.specs.declared.Judged.TheVariants.{Accepted, Rejected, Refused}
+use Rattle.judge.specs.declared.Judged.TheVariants.{Accepted, Rejected}
 
 -- ---- the first of k rows that does not hold, for any test
 module _ (p : ℕ → Bool) where
@@ -81,15 +85,6 @@ module _ (p : ℕ → Bool) where
       never h = let y : ◌≡◌ {A = ℕ} 0 1 = cc in omega arith
   found (suc k) i r e = found_step k i r e (found k (i + 1) r)
 
-  -- a row is no refusal
-  no_row_refused : (n k i : ℕ) → (numbers_of n (named p k i)).refusal ≡ 0
-  no_row_refused n zero i = rw (none i)
-  no_row_refused n (suc k) i = step (no_row_refused n k (i + 1)) (p i) refl
-    where
-      step : (numbers_of n (named p k (i + 1))).refusal ≡ 0 → (b : Bool) → p i ≡ b → (numbers_of n (named p (suc k) i)).refusal ≡ 0
-      step h true f = rw (one k i true f) h
-      step h false f = rw (one k i false f)
-
 at_most : (e : Exact) (t : Float) → within e t ≡ true → AtMost e t
 at_most e t h = let b = (both (leb e.plus (e.minus + size t)) (leb e.minus (e.plus + size t))).0 h in record { above = leb-true _ _ b.0; below = leb-true _ _ b.1 }
 
@@ -104,57 +99,80 @@ not_passes : (b : Bool) → (b ≡ true → ⊥) → b ≡ false
 not_passes true h = absurd (h refl)
 not_passes false h = refl
 
--- the answer's refusal is the refusal
-answered : (k n : ℕ) (r : Judged) → (numbers_of n r).refusal ≡ 0 → (numbers_of n (cond (eqb k 0) r (Refused k))).refusal ≡ k
-answered k n r h = go (eqb k 0) refl
-  where
-    go : (b : Bool) → eqb k 0 ≡ b → (numbers_of n (cond b r (Refused k))).refusal ≡ k
-    go true e = h ∙ sym (eqb-true k 0 e)
-    go false e = refl
+-- the answer's refusal is the refusal: a row is none
+answered : (n : ℕ) (c : Result ⊤ Refusal) (j : Judged) → (numbers_of n (result_and c (Ok j))).refusal ≡ refused_by c
+answered n (Ok u) Accepted = refl
+answered n (Ok u) (Rejected i) = refl
+answered n (Err k) j = refl
+
+-- rows are looked at only where nothing stands against it
+nothing_stands : (c : Result ⊤ Refusal) (j a : Judged) → result_and c (Ok j) ≡ Ok a → c ≡ Ok tt
+nothing_stands (Ok u) j a e = refl
+nothing_stands (Err k) j a e = absurd (cc)
+
+the_same : (j a : Judged) → ◌≡◌ {A = Result Judged Refusal} (Ok j) (Ok a) → j ≡ a
+the_same j a e = cc
+
+-- a refusal's number is not 0
+pub refused_some : (k : Refusal) → 0 < number_of k
+refused_some Order = omega arith
+refused_some Sheet = omega arith
+refused_some Points = omega arith
+refused_some Counts = omega arith
+refused_some Room = omega arith
+refused_some Kind = omega arith
+refused_some Unused = omega arith
+refused_some Node = omega arith
+refused_some Source = omega arith
+refused_some Pattern = omega arith
+refused_some Tolerance = omega arith
+refused_some Argument = omega arith
+refused_some Jobs = omega arith
 
 module _ (n : ℕ) (m x t : List Float) where
-  pub refusal_is : (numbers_of n (judge_of n m x t)).refusal ≡ judge_refusal n m x t
+  pub refusal_is : (numbers_of n (judge_of n m x t)).refusal ≡ refused_by (judge_refusal n m x t)
   unfolding judge_of
-  refusal_is = answered (judge_refusal n m x t) n (named (holds n m x t) n 0) (no_row_refused (holds n m x t) n n 0)
+  refusal_is = answered n (judge_refusal n m x t) (named (holds n m x t) n 0)
 
   -- where nothing is refused, the answer is that of the rows
-  answer : Given n m x t → judge_of n m x t ≡ named (holds n m x t) n 0
+  answer : Given n m x t → judge_of n m x t ≡ Ok (named (holds n m x t) n 0)
   unfolding judge_of
-  answer g = let e = eq-eqb (judge_refusal n m x t) 0 (no_refusal n m x t g) in rw e
+  answer g = rw (no_refusal n m x t g)
 
-  given : (a : Judged) → judge_of n m x t ≡ a → (numbers_of n a).refusal ≡ 0 → Given n m x t
-  given a e h = no_refusal_only n m x t (sym refusal_is ∙ ap (λ (r : Judged). (numbers_of n r).refusal) e ∙ h)
+  given : (a : Judged) → judge_of n m x t ≡ Ok a → Given n m x t
+  unfolding judge_of
+  given a e = no_refusal_only n m x t (nothing_stands _ _ a e)
+
+  rows : (a : Judged) → judge_of n m x t ≡ Ok a → named (holds n m x t) n 0 ≡ a
+  rows a e = the_same _ a (sym (answer (given a e)) ∙ e)
 
   -- accepted exactly when nothing is refused and every row stays within its tolerance
-  pub accepts : Given n m x t → ((i : ℕ) → i < n → Within n m x t i) → judge_of n m x t ≡ Accepted
-  accepts g w = answer g ∙ all_pass _ n 0 (λ j a b. is_within _ _ (w j (omega arith)))
+  pub accepts : Given n m x t → ((i : ℕ) → i < n → Within n m x t i) → judge_of n m x t ≡ Ok Accepted
+  accepts g w = answer g ∙ ap Ok (all_pass _ n 0 (λ j a b. is_within _ _ (w j (omega arith))))
 
-  pub accepts_only : judge_of n m x t ≡ Accepted → Given n m x t × ((i : ℕ) → i < n → Within n m x t i)
-  accepts_only e =
-      let g = given Accepted e refl in
-      (g, λ i h. at_most _ _ (passed _ n 0 (sym (answer g) ∙ e) i (omega arith) (omega arith)))
+  pub accepts_only : judge_of n m x t ≡ Ok Accepted → Given n m x t × ((i : ℕ) → i < n → Within n m x t i)
+  accepts_only e = (given Accepted e, λ i h. at_most _ _ (passed _ n 0 (rows Accepted e) i (omega arith) (omega arith)))
 
   -- row r is named exactly when nothing is refused and r is the first row that does not
-  pub rejects : (r : ℕ) → Given n m x t → FirstBeyond n m x t r → judge_of n m x t ≡ Rejected r
+  pub rejects : (r : ℕ) → Given n m x t → FirstBeyond n m x t r → judge_of n m x t ≡ Ok (Rejected r)
   rejects r g f =
-      answer g ∙ name _ n 0 r (record {
+      answer g ∙ ap Ok (name _ n 0 r (record {
         from = omega arith;
         below = omega (arith, f.is_row);
         fails = not_passes _ (λ h. f.beyond (at_most _ _ h));
         before = λ j a b. is_within _ _ (f.before j b);
-      })
+      }))
 
-  pub rejects_only : (r : ℕ) → judge_of n m x t ≡ Rejected r → Given n m x t × FirstBeyond n m x t r
+  pub rejects_only : (r : ℕ) → judge_of n m x t ≡ Ok (Rejected r) → Given n m x t × FirstBeyond n m x t r
   rejects_only r e =
-      let g = given (Rejected r) e refl in
-      let f = found _ n 0 r (sym (answer g) ∙ e) in
-      (g, record { is_row = omega (arith, f.below); beyond = λ h. fails_not _ f.fails (is_within _ _ h); before = λ j h. at_most _ _ (f.before j (omega arith) h) })
+      let f = found _ n 0 r (rows (Rejected r) e) in
+      (given (Rejected r) e, record { is_row = omega (arith, f.below); beyond = λ h. fails_not _ f.fails (is_within _ _ h); before = λ j h. at_most _ _ (f.before j (omega arith) h) })
 
   -- no row that is named is n, so that the two numbers tell accepted from rejected
-  pub accepted_numbers : (numbers_of n (judge_of n m x t)).refusal ≡ 0 → (numbers_of n (judge_of n m x t)).row ≡ n → judge_of n m x t ≡ Accepted
-  accepted_numbers e l = go (judge_of n m x t) refl l
+  pub accepted_numbers : (numbers_of n (judge_of n m x t)).refusal ≡ 0 → (numbers_of n (judge_of n m x t)).row ≡ n → judge_of n m x t ≡ Ok Accepted
+  accepted_numbers e l = go (judge_of n m x t) refl e l
     where
-      go : (a : Judged) → judge_of n m x t ≡ a → (numbers_of n a).row ≡ n → judge_of n m x t ≡ Accepted
-      go Accepted q h = q
-      go (Rejected r) q h = absurd (omega (arith, (rejects_only r q).1.is_row))
-      go (Refused k) q h = absurd (omega (arith, (no_refusal_only n m x t (sym refusal_is ∙ e)).some))
+      go : (a : Result Judged Refusal) → judge_of n m x t ≡ a → (numbers_of n a).refusal ≡ 0 → (numbers_of n a).row ≡ n → judge_of n m x t ≡ Ok Accepted
+      go (Ok Accepted) q u h = q
+      go (Ok (Rejected r)) q u h = absurd (omega (arith, (rejects_only r q).1.is_row))
+      go (Err k) q u h = absurd (omega (arith, refused_some k))

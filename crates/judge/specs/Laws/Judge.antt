@@ -1,5 +1,5 @@
 -- What the judge refuses, and what its answers say of the rows, over whole numbers. Clients cite Within, FirstBeyond, no_refusal, no_refusal_only.
-use Rattle.std.specs.Prelude.{◌≡◌, Bool, true, false, ◌||◌, List, ℕ, ◌+◌, ◌*◌, ◌≤◌, ◌<◌, eqb, Float, length, take}
+use Rattle.std.specs.Prelude.{◌≡◌, Bool, true, false, ◌||◌, List, ℕ, ◌+◌, ◌*◌, ◌≤◌, ◌<◌, eqb, Float, length, take, Result, Ok, Err, ⊤}
 use Rattle.std.proofs.Math.Path.{refl}
 use Rattle.std.proofs.Math.Bool.{cond, and-eq-true_iff as both}
 use mathlib.Mathlib.Data.Bool.Basic.{or-eq-false-eq-eq-false-and-eq-false as neither}
@@ -7,6 +7,8 @@ use native.Mathlib.Omega.{arith}
 use Rattle.std.proofs.Math.Dec.{ltb}
 use borrow.Author.Tests.{eqb-false, ltb-false, ne_eqb, le-ltb}
 use Rattle.exact.specs.Exact.{Exact, size}
+use Rattle.numbers.specs.declared.refusal.Refusal.{Refusal}
+use Rattle.numbers.specs.declared.refusal.Refusal.TheVariants.{Order, Room, Tolerance}
 use Rattle.num.specs.Lists.{«at», every}
 use Rattle.judge.specs.Judge.{residual, allowed, judge_refusal, Given}
 
@@ -39,17 +41,17 @@ pub record FirstBeyond (n : ℕ) (m x t : List Float) (r : ℕ) : Type 0 where
   pub before : (j : ℕ) → j < r → Within n m x t j
 
 -- a refusal that is not given
-not_given : (b : Bool) (k r : ℕ) → 0 < k → cond b k r ≡ 0 → (b ≡ false) × (r ≡ 0)
-not_given true k r h e = absurd (omega arith)
-not_given false k r h e = (refl, e)
+not_given : (b : Bool) (k : Refusal) (r : Result ⊤ Refusal) → cond b (Err k) r ≡ Ok tt → (b ≡ false) × (r ≡ Ok tt)
+not_given true k r e = absurd (cc)
+not_given false k r e = (refl, e)
 
-not_else : (b : Bool) (k : ℕ) → 0 < k → cond b 0 k ≡ 0 → b ≡ true
-not_else true k h e = refl
-not_else false k h e = absurd (omega arith)
+not_else : (b : Bool) (k : Refusal) → ◌≡◌ {A = Result ⊤ Refusal} (cond b (Ok tt) (Err k)) (Ok tt) → b ≡ true
+not_else true k e = refl
+not_else false k e = absurd (cc)
 
 module _ (n : ℕ) (m x t : List Float) where
   -- nothing else is refused
-  pub no_refusal : Given n m x t → judge_refusal n m x t ≡ 0
+  pub no_refusal : Given n m x t → judge_refusal n m x t ≡ Ok tt
   unfolding judge_refusal
   no_refusal g =
       let r = g.rows in
@@ -58,12 +60,12 @@ module _ (n : ℕ) (m x t : List Float) where
       not_zero : (a : ℕ) → 0 < a → a ≡ 0 → ⊥
       not_zero a h e = omega arith
 
-  pub no_refusal_only : judge_refusal n m x t ≡ 0 → Given n m x t
+  pub no_refusal_only : judge_refusal n m x t ≡ Ok tt → Given n m x t
   unfolding judge_refusal
   no_refusal_only e =
-      let p = not_given (eqb n 0 || ltb 48 n) 1 _ (omega arith) e in
-      let q = not_given (ltb (length m) (n * (n + 1)) || (ltb (length x) n || ltb (length t) n)) 5 _ (omega arith) p.1 in
-      let r = not_else _ 11 (omega arith) q.1 in
+      let p = not_given (eqb n 0 || ltb 48 n) Order _ e in
+      let q = not_given (ltb (length m) (n * (n + 1)) || (ltb (length x) n || ltb (length t) n)) Room _ p.1 in
+      let r = not_else _ Tolerance q.1 in
       let u = (neither (eqb n 0) (ltb 48 n)).0 p.0 in
       let v = (neither (ltb (length m) (n * (n + 1))) _).0 q.0 in
       let w = (neither (ltb (length x) n) (ltb (length t) n)).0 v.1 in

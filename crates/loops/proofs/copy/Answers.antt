@@ -10,7 +10,7 @@ use Rattle.loops.specs.Laws.Loop.{front_more}
 use Rattle.loops.proofs.copy.Goals as goal
 
 pub loop-i-init : goal.loop-i-init
-loop-i-init c = (search rules, c.least-n.ensures, refl, refl)
+loop-i-init c = (search rules, c.min-n.ensures, refl, refl)
 
 pub loop-i-preserved : goal.loop-i-preserved
 loop-i-preserved c =

@@ -1,7 +1,7 @@
 -- Rows that were written stand, and nothing past them changes, for every stamping and solving f that keeps the vector's length. Clients cite row_room, Steady,
 -- Stand, Grown and run_grown. Assumes nothing.
 use Prim.Native.Nat.{ℕ, zero, suc, ◌+◌, ◌*◌, ◌/◌, ◌-◌, ◌<◌, ◌≤◌}
-use Rattle.std.specs.Prelude.{◌≡◌, Bool, cond, List, ◌∷◌, ◌++◌, eqb, take, Float}
+use Rattle.std.specs.Prelude.{◌≡◌, Bool, cond, List, ◌∷◌, ◌++◌, take, Float}
 use Rattle.std.proofs.Math.Path.{refl, ap}
 use Rattle.std.proofs.Common.{◌∙◌, subst, ltb-true, suc-mul, div-mul-le_self, div-le_self}
 use Rattle.std.proofs.Math.Bool.{true, false}
@@ -16,8 +16,8 @@ use Rattle.options.specs.declared.Options.{Options}
 use Rattle.steps.specs.declared.Counters.{Counters}
 use Rattle.steps.specs.declared.Report.{Report}
 use Rattle.steps.specs.declared.Report.TheVariants.{Yes, No, Error, Diode, Sine}
-use Rattle.numbers.specs.Verdicts.{no_room}
-use Rattle.steps.specs.Phases.{dc_phase, transient_phase}
+use Rattle.numbers.specs.declared.verdict.Verdict.TheVariants.{NoRoom}
+use Rattle.steps.specs.Phases.{is_dc, is_transient}
 use Rattle.steps.specs.Counters.{top, next, ended, written}
 use Rattle.steps.specs.Control.{dc_after, step_after, row_due}
 use Rattle.steps.specs.Laws.Control.{next_more, next_least, Closed, dc_keeps, step_keeps}
@@ -127,9 +127,9 @@ module _ (k n : ℕ) (old : List Float) (small : length old ≤ top) where
   unfolding written_by
   write_stands c v h l = go (ltb c.rows (length old / (length v + 1))) refl
     where
-      go : (b : Bool) → ltb c.rows (length old / (length v + 1)) ≡ b → Stands (cond b (written_of (written c) (row_at (c.rows * (length v + 1)) c.time v old)) (written_of (ended no_room c) old))
+      go : (b : Bool) → ltb c.rows (length old / (length v + 1)) ≡ b → Stands (cond b (written_of (written c) (row_at (c.rows * (length v + 1)) c.time v old)) (written_of (ended NoRoom c) old))
       go true e = row_stands c v h l (ltb-true _ _ e)
-      go false e = untouched (ended no_room c) h
+      go false e = untouched (ended NoRoom c) h
 
   land_stands : (o : Options) (c : Counters) (v : List Float) → k ≤ c.rows → length v ≡ n → Stands (landed o c v old)
   unfolding landed
@@ -160,7 +160,7 @@ module _ (f : Attempt) (j : Job) (n : ℕ) (steady : Steady n f) (k : ℕ) where
     unfolding dc_pass
     dc_grown =
         let r = dc_rows k j.options s.counters h j.transient (tried_by f j s).report in
-        grows _ _ (choose k n s.buffers.rows small (eqb (dc_after j.options j.transient (tried_by f j s).report s.counters).phase transient_phase) _ _ (write_stands k n s.buffers.rows small _ _ r (long_tried s l)) (untouched k n s.buffers.rows small _ r))
+        grows _ _ (choose k n s.buffers.rows small (is_transient (dc_after j.options j.transient (tried_by f j s).report s.counters).phase) _ _ (write_stands k n s.buffers.rows small _ _ r (long_tried s l)) (untouched k n s.buffers.rows small _ r))
 
     step_grown : Grows (step_pass f j s)
     unfolding step_pass
@@ -174,7 +174,7 @@ module _ (f : Attempt) (j : Job) (n : ℕ) (steady : Steady n f) (k : ℕ) where
 
     pub pass_grown : Grows (pass f j s)
     unfolding pass
-    pass_grown = go (eqb s.counters.phase dc_phase) (eqb s.counters.phase transient_phase)
+    pass_grown = go (is_dc s.counters.phase) (is_transient s.counters.phase)
       where
         go : (a b : Bool) → Grows (cond a (dc_pass f j s) (cond b (step_pass f j s) s))
         go true b = dc_grown

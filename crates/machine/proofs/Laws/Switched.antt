@@ -7,7 +7,7 @@ use Rattle.std.proofs.Common.{sym, subst, ◌∙◌, true≢false, ⊎_elim}
 use Rattle.std.proofs.Math.Bool.{true, false}
 use Rattle.std.proofs.Math.Logic.{inl, inr}
 use native.Mathlib.Omega.{arith}
-use Rattle.numbers.specs.Verdicts.{settled, passes_used}
+use Rattle.numbers.specs.declared.verdict.Verdict.TheVariants.{Settled, PassesUsed}
 use Rattle.options.specs.declared.Options.{Options}
 use Rattle.options.specs.Switch.{on}
 use Rattle.convergence.specs.Convergence.{limit, place, checked, convergence_of}
@@ -15,7 +15,9 @@ use Rattle.steps.specs.declared.Counters.{Counters}
 use Rattle.steps.specs.declared.Job.{Job}
 use Rattle.steps.specs.declared.Report.{Report}
 use Rattle.steps.specs.declared.Report.TheVariants.{Yes, No, Error, Diode, Sine}
-use Rattle.steps.specs.Phases.{dc_phase, transient_phase}
+use Rattle.steps.specs.declared.Phase.TheVariants.{Dc}
+use Rattle.steps.specs.Phases.{is_transient}
+use Rattle.steps.specs.Laws.Verdicts.{differ}
 use Rattle.steps.specs.Counters.{top, counted, going}
 use Rattle.steps.specs.Control.{waited, failed, dc_over, dc_after}
 use Rattle.steps.specs.Laws.Control.{next_more}
@@ -27,14 +29,14 @@ use Rattle.machine.specs.Laws.Budget.{pass_dc, pass_stopped}
 
 -- a DC run is in DC or over
 abbrev pub DcOnly : Counters → Type 0
-DcOnly c = (c.phase ≡ dc_phase) ⊎ (going c ≡ false)
+DcOnly c = (c.phase ≡ Dc) ⊎ (going c ≡ false)
 
 -- the run b without the switch is over and settled; the run a with it has made as many passes or more, and more if it settles too
 pub record Ahead (a b : Counters) : Type 0 where
   pub over : going b ≡ false
-  pub settles : b.verdict ≡ settled
+  pub settles : b.verdict ≡ Settled
   pub fewer : b.passes ≤ a.passes
-  pub later : going a ≡ false → a.verdict ≡ settled → b.passes < a.passes
+  pub later : going a ≡ false → a.verdict ≡ Settled → b.passes < a.passes
 
 pub data Pair (a b : State) : Type 0 where
   same : a ≡ b → Pair a b
@@ -44,12 +46,12 @@ pub data Pair (a b : State) : Type 0 where
 
 module _ (o : Options) where
   -- after a pass of a DC run there is no transient
-  never_steps : (r : Report) (c : Counters) → c.phase ≡ dc_phase → (eqb (dc_after o false r c).phase transient_phase ≡ false) × DcOnly (dc_after o false r c)
+  never_steps : (r : Report) (c : Counters) → c.phase ≡ Dc → (is_transient (dc_after o false r c).phase ≡ false) × DcOnly (dc_after o false r c)
   unfolding dc_after dc_over
   never_steps Yes c h = (refl, inr refl)
   never_steps No c h = go (ltb o.itl1 (counted c).count)
     where
-      go : (b : Bool) → (eqb (cond b (failed passes_used (counted c)) (counted c)).phase transient_phase ≡ false) × DcOnly (cond b (failed passes_used (counted c)) (counted c))
+      go : (b : Bool) → (is_transient (cond b (failed PassesUsed (counted c)) (counted c)).phase ≡ false) × DcOnly (cond b (failed PassesUsed (counted c)) (counted c))
       go true = (refl, inr refl)
       go false = (rw h, inl h)
   never_steps Error c h = (refl, inr refl)
@@ -62,20 +64,20 @@ module _ (o : Options) where
   keeps_ahead Yes c d l g p = record { over = p.over; settles = p.settles; fewer = omega (arith, p.fewer, next_more c.passes l); later = λ _ _. omega (arith, p.fewer, next_more c.passes l) }
   keeps_ahead No c d l g p = go (ltb o.itl1 (counted c).count)
     where
-      go : (b : Bool) → Ahead (cond b (failed passes_used (counted c)) (counted c)) d
-      go true = record { over = p.over; settles = p.settles; fewer = omega (arith, p.fewer, next_more c.passes l); later = λ _ e. absurd (omega arith) }
+      go : (b : Bool) → Ahead (cond b (failed PassesUsed (counted c)) (counted c)) d
+      go true = record { over = p.over; settles = p.settles; fewer = omega (arith, p.fewer, next_more c.passes l); later = λ _ e. absurd (differ refl e) }
       go false = record { over = p.over; settles = p.settles; fewer = omega (arith, p.fewer, next_more c.passes l); later = λ e _. absurd (true≢false (sym g ∙ e)) }
-  keeps_ahead Error c d l g p = record { over = p.over; settles = p.settles; fewer = omega (arith, p.fewer, next_more c.passes l); later = λ _ e. absurd (omega arith) }
-  keeps_ahead Diode c d l g p = record { over = p.over; settles = p.settles; fewer = p.fewer; later = λ _ e. absurd (omega arith) }
-  keeps_ahead Sine c d l g p = record { over = p.over; settles = p.settles; fewer = p.fewer; later = λ _ e. absurd (omega arith) }
+  keeps_ahead Error c d l g p = record { over = p.over; settles = p.settles; fewer = omega (arith, p.fewer, next_more c.passes l); later = λ _ e. absurd (differ refl e) }
+  keeps_ahead Diode c d l g p = record { over = p.over; settles = p.settles; fewer = p.fewer; later = λ _ e. absurd (differ refl e) }
+  keeps_ahead Sine c d l g p = record { over = p.over; settles = p.settles; fewer = p.fewer; later = λ _ e. absurd (differ refl e) }
 
   -- "no" in place of "yes" gets ahead
   gets_ahead : (p : Options) (c : Counters) → going c ≡ true → Ahead (dc_after o false No c) (dc_after p false Yes c)
   unfolding dc_after dc_over
   gets_ahead p c g = go (ltb o.itl1 (counted c).count)
     where
-      go : (b : Bool) → Ahead (cond b (failed passes_used (counted c)) (counted c)) (failed settled (counted c))
-      go true = record { over = refl; settles = refl; fewer = omega arith; later = λ _ e. absurd (omega arith) }
+      go : (b : Bool) → Ahead (cond b (failed PassesUsed (counted c)) (counted c)) (failed Settled (counted c))
+      go true = record { over = refl; settles = refl; fewer = omega arith; later = λ _ e. absurd (differ refl e) }
       go false = record { over = refl; settles = refl; fewer = omega arith; later = λ e _. absurd (true≢false (sym g ∙ e)) }
 
   -- passes grow by one at most
@@ -84,7 +86,7 @@ module _ (o : Options) where
   one_pass Yes c l = omega (arith, next_more c.passes l)
   one_pass No c l = go (ltb o.itl1 (counted c).count)
     where
-      go : (b : Bool) → (cond b (failed passes_used (counted c)) (counted c)).passes ≤ c.passes + 1
+      go : (b : Bool) → (cond b (failed PassesUsed (counted c)) (counted c)).passes ≤ c.passes + 1
       go true = omega (arith, next_more c.passes l)
       go false = omega (arith, next_more c.passes l)
   one_pass Error c l = omega (arith, next_more c.passes l)
@@ -148,7 +150,7 @@ module _ (f : Attempt) (o : Options) (nodes : ℕ) where
   shaped_same : (w : ℕ) (r : Report) (s : State) → shaped w r s ≡ shaped 0 r s
   shaped_same w r s = rw (control_same o w 0 r s.counters, takes_same w s.counters r)
 
-  named : (w : ℕ) (s : State) → s.counters.phase ≡ dc_phase → (r : Report) → (tried_by f (job w) s).report ≡ r → dc_pass f (job w) s ≡ shaped w r s
+  named : (w : ℕ) (s : State) → s.counters.phase ≡ Dc → (r : Report) → (tried_by f (job w) s).report ≡ r → dc_pass f (job w) s ≡ shaped w r s
   unfolding dc_pass took tried compared
   named w s h r e = rw (e, (never_steps (with_catchup w o) r s.counters h).0)
 
@@ -156,12 +158,12 @@ module _ (f : Attempt) (o : Options) (nodes : ℕ) where
   unfolding took tried
   told w s = ap (waited (with_catchup w o) (f s.counters s.accepted s.buffers).behind) (says_same w s)
 
-  dc_shaped : (w : ℕ) (s : State) → s.counters.phase ≡ dc_phase → dc_pass f (job w) s ≡ shaped w (reports w s) s
+  dc_shaped : (w : ℕ) (s : State) → s.counters.phase ≡ Dc → dc_pass f (job w) s ≡ shaped w (reports w s) s
   dc_shaped w s h = named w s h (reports w s) (told w s)
 
   module _ (w : ℕ) where
     -- two passes from one state
-    splits : (s : State) → s.counters.phase ≡ dc_phase → Pair (shaped w (reports w s) s) (shaped 0 (reports 0 s) s)
+    splits : (s : State) → s.counters.phase ≡ Dc → Pair (shaped w (reports w s) s) (shaped 0 (reports 0 s) s)
     splits s h =
         let b = (f s.counters s.accepted s.buffers).behind in
         let off : reports 0 s ≡ says s = waited_off (with_catchup 0 o) b refl (says s) in
@@ -181,14 +183,14 @@ module _ (f : Attempt) (o : Options) (nodes : ℕ) where
     ended_stays : (s : State) (v : ℕ) → going s.counters ≡ false → pass f (job v) s ≡ s
     ended_stays s v g = pass_stopped f (job v) s g
 
-    dc_passes : (s : State) (v : ℕ) → s.counters.phase ≡ dc_phase → pass f (job v) s ≡ shaped v (reports v s) s
+    dc_passes : (s : State) (v : ℕ) → s.counters.phase ≡ Dc → pass f (job v) s ≡ shaped v (reports v s) s
     dc_passes s v h = pass_dc f (job v) s h ∙ dc_shaped v s h
 
     -- one pass of both
     both_pass : (n : ℕ) (a b : State) → Two (suc n) a b → Two n (pass f (job w) a) (pass f (job 0) b)
     both_pass n a b t = ⊎_elim live stopped t.dc
       where
-        next_dc : (h : a.counters.phase ≡ dc_phase) → (p : Pair (pass f (job w) a) (pass f (job 0) b)) → Two n (pass f (job w) a) (pass f (job 0) b)
+        next_dc : (h : a.counters.phase ≡ Dc) → (p : Pair (pass f (job w) a) (pass f (job 0) b)) → Two n (pass f (job w) a) (pass f (job 0) b)
         next_dc h p =
             record {
               pair = p;
@@ -196,13 +198,13 @@ module _ (f : Attempt) (o : Options) (nodes : ℕ) where
               small = rw (dc_passes a w h) (omega (arith, t.small, one_pass (with_catchup w o) (reports w a) a.counters (omega (arith, t.small))));
             }
 
-        by_pair : (h : a.counters.phase ≡ dc_phase) → Pair a b → Pair (pass f (job w) a) (pass f (job 0) b)
+        by_pair : (h : a.counters.phase ≡ Dc) → Pair a b → Pair (pass f (job w) a) (pass f (job 0) b)
         by_pair h (same e) = rw (← e, dc_passes a w h, dc_passes a 0 h) (splits a h)
         by_pair h (apart p) =
             rw (dc_passes a w h, ended_stays b 0 p.over)
             (apart (keeps_ahead (with_catchup w o) (reports w a) a.counters b.counters (omega (arith, t.small)) (rw h) p))
 
-        live : a.counters.phase ≡ dc_phase → Two n (pass f (job w) a) (pass f (job 0) b)
+        live : a.counters.phase ≡ Dc → Two n (pass f (job w) a) (pass f (job 0) b)
         live h = next_dc h (by_pair h t.pair)
 
         stays : (g : going a.counters ≡ false) → Pair a b → Pair a (pass f (job 0) b)
@@ -217,7 +219,7 @@ module _ (f : Attempt) (o : Options) (nodes : ℕ) where
     both_run zero a b t = t
     both_run (suc n) a b t = both_run n (pass f (job w) a) (pass f (job 0) b) (both_pass n a b t)
 
-    module _ (n : ℕ) (s : State) (dc : s.counters.phase ≡ dc_phase) (small : s.counters.passes + n ≤ top) where
+    module _ (n : ℕ) (s : State) (dc : s.counters.phase ≡ Dc) (small : s.counters.passes + n ≤ top) where
       -- a DC run with the switch and without it: the same state, or the second has settled before
       pub pairs : Pair (run_for f (job w) n s) (run_for f (job 0) n s)
       pairs = (both_run n s s (record { pair = same refl; dc = inl dc; small = small })).pair

@@ -1,18 +1,22 @@
 -- Where the inductors take their currents, for every stamping and solving f: in the pass that ends DC with 0, 20 or 21 and in a step that is accepted, and nowhere else. The memory is then what the attempt has for `taken`,
 -- at the counters, the accepted vector and the buffers with which the pass began: so it is the step before it is doubled. Clients cite all that is `pub`. Assumes nothing.
-use Rattle.std.specs.Prelude.{ℕ, ◌+◌, ◌/◌, ◌≤◌, ◌≡◌, Bool, cond, not, List, ◌⊎◌, eqb, ltb, length, Float}
-use Rattle.std.proofs.Math.Path.{refl}
-use Rattle.std.proofs.Common.{subst, sym, ◌∙◌, inr, ⊎_elim, eqb-true, eq-eqb, ne_eqb}
+use Rattle.std.specs.Prelude.{◌+◌, ◌/◌, ◌≤◌, ◌≡◌, Bool, cond, not, List, ◌⊎◌, ltb, length, Float}
+use Rattle.std.proofs.Math.Path.{refl, ap}
+use Rattle.std.proofs.Common.{subst, sym, ◌∙◌, inr, ⊎_elim}
 use Rattle.std.proofs.Math.Bool.{true, false}
 use Rattle.std.proofs.Math.Logic.{inl}
 use native.Mathlib.Omega.{arith}
-use Rattle.numbers.specs.Verdicts.{settled, passes_used, diverged, no_room}
+use Rattle.numbers.specs.declared.verdict.Verdict.{Verdict}
+use Rattle.numbers.specs.declared.verdict.Verdict.TheVariants.{Settled, PassesUsed, Diverged, DiodeCurrent, BudgetSpent, NoRoom, SineRefused}
+use Rattle.numbers.specs.Verdicts.{number_of}
 use Rattle.loops.specs.Laws.Loop.{either_same}
 use Rattle.steps.specs.declared.Counters.{Counters}
 use Rattle.steps.specs.declared.Job.{Job}
 use Rattle.steps.specs.declared.Report.{Report}
 use Rattle.steps.specs.declared.Report.TheVariants.{Yes, No, Error, Diode, Sine}
-use Rattle.steps.specs.Phases.{dc_phase, transient_phase}
+use Rattle.steps.specs.declared.Phase.TheVariants.{Dc, Transient}
+use Rattle.steps.specs.Phases.{is_dc, is_transient}
+use Rattle.steps.specs.Laws.Phases.{transient_not_dc, transient_phase}
 use Rattle.steps.specs.Counters.{counted, ended, written, dc_verdict_of}
 use Rattle.steps.specs.Control.{dc_over, dc_after}
 use Rattle.steps.specs.Laws.Control.{Ends, settles, «runs-out», diverges}
@@ -27,7 +31,7 @@ DcEnds c = Ends false (dc_verdict_of c)
 -- ---- DC's verdict says whether its vector is taken
 
 -- 22, 24 and 26 are none of these
-not_ended : (v : ℕ) → 22 ≤ v → Ends false v → ⊥
+not_ended : (v : Verdict) → 22 ≤ number_of v → Ends false v → ⊥
 not_ended v h settles = omega arith
 not_ended v h «runs-out» = omega arith
 not_ended v h diverges = omega arith
@@ -36,34 +40,34 @@ not_ended v h diverges = omega arith
 abbrev Says : Bool → Counters → Type 0
 Says b d = ((b ≡ true) × DcEnds d) ⊎ ((b ≡ false) × (DcEnds d → ⊥))
 
-module _ (j : Job) (c : Counters) (h : c.phase ≡ dc_phase) where
-  over : (tr : Bool) (v : ℕ) → Ends false v → Says (not (eqb (dc_over j.options tr v (counted c)).phase dc_phase)) (dc_over j.options tr v (counted c))
+module _ (j : Job) (c : Counters) (h : c.phase ≡ Dc) where
+  over : (tr : Bool) (v : Verdict) → Ends false v → Says (not (is_dc (dc_over j.options tr v (counted c)).phase)) (dc_over j.options tr v (counted c))
   unfolding dc_over dc_verdict_of
   over true v e = inl (refl, e)
   over false v e = inl (refl, e)
 
-  more : (b : Bool) → let d = cond b (dc_over j.options j.transient passes_used (counted c)) (counted c) in Says (not (eqb d.phase dc_phase)) d
+  more : (b : Bool) → let d = cond b (dc_over j.options j.transient PassesUsed (counted c)) (counted c) in Says (not (is_dc d.phase)) d
   unfolding dc_verdict_of
-  more true = over j.transient passes_used «runs-out»
-  more false = rw h (inr (refl, not_ended 24 (omega arith)))
+  more true = over j.transient PassesUsed «runs-out»
+  more false = rw h (inr (refl, not_ended BudgetSpent (omega arith)))
 
   dc_says : (r : Report) → Says (takes j c r) (dc_after j.options j.transient r c)
   unfolding takes dc_after dc_verdict_of
-  dc_says Yes = rw (eq-eqb _ _ h) (over j.transient settled settles)
-  dc_says No = rw (eq-eqb _ _ h) (more (ltb j.options.itl1 (counted c).count))
-  dc_says Error = rw (eq-eqb _ _ h) (over j.transient diverged diverges)
-  dc_says Diode = rw (eq-eqb _ _ h) (inr (refl, not_ended 22 (omega arith)))
-  dc_says Sine = rw (eq-eqb _ _ h) (inr (refl, not_ended 26 (omega arith)))
+  dc_says Yes = rw (ap is_dc h) (over j.transient Settled settles)
+  dc_says No = rw (ap is_dc h) (more (ltb j.options.itl1 (counted c).count))
+  dc_says Error = rw (ap is_dc h) (over j.transient Diverged diverges)
+  dc_says Diode = rw (ap is_dc h) (inr (refl, not_ended DiodeCurrent (omega arith)))
+  dc_says Sine = rw (ap is_dc h) (inr (refl, not_ended SineRefused (omega arith)))
 
 -- the first row does not change how DC reads
-row_reads : (c : Counters) (v rows : List Float) → dc_verdict_of (cond (eqb c.phase transient_phase) (written_by c v rows) (written_of c rows)).counters ≡ dc_verdict_of c
+row_reads : (c : Counters) (v rows : List Float) → dc_verdict_of (cond (is_transient c.phase) (written_by c v rows) (written_of c rows)).counters ≡ dc_verdict_of c
 unfolding dc_verdict_of written_by
-row_reads c v rows = go (eqb c.phase transient_phase) refl (ltb c.rows (length rows / (length v + 1))) _
+row_reads c v rows = go (is_transient c.phase) refl (ltb c.rows (length rows / (length v + 1))) _
   where
-    go : (b : Bool) → eqb c.phase transient_phase ≡ b → (r : Bool) (x : List Float)
-        → dc_verdict_of (cond b (cond r (written_of (written c) x) (written_of (ended no_room c) rows)) (written_of c rows)).counters ≡ dc_verdict_of c
+    go : (b : Bool) → is_transient c.phase ≡ b → (r : Bool) (x : List Float)
+        → dc_verdict_of (cond b (cond r (written_of (written c) x) (written_of (ended NoRoom c) rows)) (written_of c rows)).counters ≡ dc_verdict_of c
     go true e true x = refl
-    go true e false x = rw (eqb-true c.phase transient_phase e)
+    go true e false x = rw (transient_phase c.phase e)
     go false e r x = refl
 
 module _ (f : Attempt) (j : Job) (s : State) where
@@ -99,12 +103,12 @@ module _ (f : Attempt) (j : Job) (s : State) where
       go true x y p q = p
       go false x y p q = q
 
-  module _ (h : s.counters.phase ≡ transient_phase) where
+  module _ (h : s.counters.phase ≡ Transient) where
     by_accepts : (b : Bool) → accepts (tried_by f j s).report ≡ b → (pass f j s).buffers.memory ≡ cond b attempted.taken attempted.memory
     unfolding takes
     by_accepts b e =
-        let n : s.counters.phase ≡ dc_phase → ⊥ = λ q. omega arith in
-        rw (pass_step f j s n h, step_memory) (by_takes b (rw (ne_eqb _ _ n) e))
+        let n : s.counters.phase ≡ Dc → ⊥ = λ q. transient_not_dc (sym h ∙ q) in
+        rw (pass_step f j s n h, step_memory) (by_takes b (rw (ap is_dc h) e))
 
     -- a step that is not accepted (it says "no", is cut or fails) leaves the memory as the attempt left it
     pub rejected_stays : accepts (tried_by f j s).report ≡ false → (pass f j s).buffers.memory ≡ attempted.memory
@@ -116,7 +120,7 @@ module _ (f : Attempt) (j : Job) (s : State) where
 
   -- ---- DC
 
-  module _ (h : s.counters.phase ≡ dc_phase) where
+  module _ (h : s.counters.phase ≡ Dc) where
     dc_memory : (pass f j s).buffers.memory ≡ (tried_by f j s).memory
     unfolding dc_pass
     dc_memory = rw (pass_dc f j s h)

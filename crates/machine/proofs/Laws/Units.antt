@@ -3,11 +3,12 @@
 use Prim.Native.Nat.{ℕ, zero, suc, ◌+◌, ◌<◌, ◌≤◌}
 use Rattle.std.proofs.Math.Path.{◌≡◌, refl, ap}
 use Rattle.std.proofs.Common.{sym, ◌∙◌}
-use Rattle.std.specs.Prelude.{Bool, ◌||◌, eqb}
+use Rattle.std.specs.Prelude.{Bool, eqb}
 use Rattle.std.proofs.Math.Bool.{true, false, cond}
 use native.Mathlib.Omega.{arith}
 use Rattle.steps.specs.declared.Counters.{Counters}
-use Rattle.numbers.specs.Verdicts.{diode_current, sine_refused}
+use Rattle.numbers.specs.declared.verdict.Verdict.{Verdict}
+use Rattle.numbers.specs.declared.verdict.Verdict.TheVariants.{Settled, PassesUsed, Diverged, DiodeCurrent, StepTooSmall, BudgetSpent, NoRoom, SineRefused}
 use Rattle.steps.specs.Counters.{top, going}
 use Rattle.steps.specs.Laws.Control.{next_more, Ends, settles, «runs-out», diverges, shrinks, fills, Fails, «at-diode», «at-sine», Closed}
 use Rattle.steps.specs.declared.Job.{Job}
@@ -23,20 +24,27 @@ used f j zero s = 0
 used f j (suc n) s = cond (going s.counters) (suc (used f j n (pass f j s))) 0
 
 -- 1 for a run that ended in a pass that failed, 22 or 26
-abbrev pub failing : ℕ → Bool
-failing v = eqb v diode_current || eqb v sine_refused
+abbrev pub failing : Verdict → Bool
+failing Settled = false
+failing PassesUsed = false
+failing Diverged = false
+failing DiodeCurrent = true
+failing StepTooSmall = false
+failing BudgetSpent = false
+failing NoRoom = false
+failing SineRefused = true
 
 abbrev pub lost : Counters → ℕ
 lost c = cond (going c) 0 (cond (failing c.verdict) 1 0)
 
-ends_fair : (t : Bool) (v : ℕ) → Ends t v → failing v ≡ false
+ends_fair : (t : Bool) (v : Verdict) → Ends t v → failing v ≡ false
 ends_fair t v settles = refl
 ends_fair t v «runs-out» = refl
 ends_fair t v diverges = refl
 ends_fair t v shrinks = refl
 ends_fair t v fills = refl
 
-fails_fail : (v : ℕ) → Fails v → failing v ≡ true
+fails_fail : (v : Verdict) → Fails v → failing v ≡ true
 fails_fail v «at-diode» = refl
 fails_fail v «at-sine» = refl
 

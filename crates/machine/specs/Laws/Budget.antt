@@ -1,14 +1,15 @@
 -- Laws of budgets, for every stamping and solving f: an ended run stays, budgets add up, and no pass changes the base. Clients cite all that is `pub`. Assumes nothing.
-use Prim.Native.Nat.{ℕ, zero, suc, ◌+◌, ◌-◌, ◌<◌, ◌≤◌}
-use Rattle.std.specs.Prelude.{◌≡◌, Bool, cond, eqb}
+use Prim.Native.Nat.{ℕ, zero, suc, ◌+◌, ◌-◌, ◌<◌}
+use Rattle.std.specs.Prelude.{◌≡◌, Bool, cond}
 use Rattle.std.proofs.Math.Path.{refl, ap}
-use Rattle.std.proofs.Common.{◌∙◌}
+use Rattle.std.proofs.Common.{sym, ◌∙◌}
 use Rattle.std.proofs.Math.Bool.{true, false}
 use mathlib.Core.List.{List, [], ◌∷◌}
-use borrow.Author.Tests.{eq-eqb, ne_eqb, ltb-false}
 use native.Mathlib.Omega.{arith}
 use Rattle.std.proofs.Math.Nat.{zero-add, suc-add}
-use Rattle.steps.specs.Phases.{dc_phase, transient_phase}
+use Rattle.steps.specs.declared.Phase.TheVariants.{Dc, Transient}
+use Rattle.steps.specs.Phases.{is_dc, is_transient}
+use Rattle.steps.specs.Laws.Phases.{ended_not_dc, ended_not_transient, ended_phase, not_dc, not_transient}
 use Rattle.steps.specs.Counters.{going}
 use Rattle.steps.specs.declared.Job.{Job}
 use Rattle.machine.specs.State.{State, Attempt}
@@ -22,22 +23,22 @@ total (b ∷ bs) = b + total bs
 module _ (f : Attempt) (j : Job) where
   -- ---- a pass by its phase
 
-  pub pass_dc : (s : State) → s.counters.phase ≡ dc_phase → pass f j s ≡ dc_pass f j s
+  pub pass_dc : (s : State) → s.counters.phase ≡ Dc → pass f j s ≡ dc_pass f j s
   unfolding pass
-  pass_dc s h = rw (eq-eqb _ _ h)
+  pass_dc s h = rw h
 
-  pub pass_step : (s : State) → (s.counters.phase ≡ dc_phase → ⊥) → s.counters.phase ≡ transient_phase → pass f j s ≡ step_pass f j s
+  pub pass_step : (s : State) → (s.counters.phase ≡ Dc → ⊥) → s.counters.phase ≡ Transient → pass f j s ≡ step_pass f j s
   unfolding pass
-  pass_step s n h = rw (ne_eqb _ _ n, eq-eqb _ _ h)
+  pass_step s n h = rw h
 
-  pub pass_ended : (s : State) → (s.counters.phase ≡ dc_phase → ⊥) → (s.counters.phase ≡ transient_phase → ⊥) → pass f j s ≡ s
+  pub pass_ended : (s : State) → (s.counters.phase ≡ Dc → ⊥) → (s.counters.phase ≡ Transient → ⊥) → pass f j s ≡ s
   unfolding pass
-  pass_ended s n h = rw (ne_eqb _ _ n, ne_eqb _ _ h)
+  pass_ended s n h = rw (not_dc _ n, not_transient _ h)
 
   pub pass_stopped : (s : State) → going s.counters ≡ false → pass f j s ≡ s
   pass_stopped s h =
-      let g : 2 ≤ s.counters.phase = ltb-false _ _ h in
-      pass_ended s (λ e. omega arith) (λ e. omega arith)
+      let g = ended_phase s.counters.phase h in
+      pass_ended s (λ e. ended_not_dc (sym g ∙ e)) (λ e. ended_not_transient (sym g ∙ e))
 
   -- ---- budgets
 
@@ -79,7 +80,7 @@ module _ (f : Attempt) (j : Job) where
   -- no pass changes the base matrix
   pub pass_base : (s : State) → (pass f j s).buffers.base ≡ s.buffers.base
   unfolding pass dc_pass
-  pass_base s = go (eqb s.counters.phase dc_phase) (eqb s.counters.phase transient_phase)
+  pass_base s = go (is_dc s.counters.phase) (is_transient s.counters.phase)
     where
       go : (a b : Bool) → (cond a (dc_pass f j s) (cond b (step_pass f j s) s)).buffers.base ≡ s.buffers.base
       go true b = refl

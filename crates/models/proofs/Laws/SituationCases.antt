@@ -1,5 +1,5 @@
 -- The five situations of the limiting rule at every edge, each by computing the definitions. A pair is the voltage asked for and the last one.
-use Rattle.std.specs.Prelude.{◌≡◌, refl, true, List, [], ◌∷◌, map, Float}
+use Rattle.std.specs.Prelude.{◌≡◌, refl, true, List, [], ◌∷◌, map, None, Float}
 use Rattle.std.specs.Int.Count.{count_leading_zeros}
 use Rattle.std.specs.Float.{nan, binary64}
 use Rattle.std.specs.Float.Ieee.{of_bits, size, add, sub, mul, div, neg, lt, le}
@@ -11,7 +11,6 @@ use Rattle.functions.specs.Words.{horner, rounded, packed}
 use Rattle.models.specs.Signs.{◌⊕◌}
 use Rattle.models.specs.Diode.{critical, limited, model_at}
 use Rattle.models.specs.Situation.{falling, situation_of}
-use Rattle.models.specs.declared.diode.Linear.TheVariants.{NotFinite}
 use Rattle.models.specs.declared.diode.Situation.{Situation}
 use Rattle.models.specs.declared.diode.Situation.TheVariants.{SmallStep, BelowCritical, TurnOn, FallBack, Climb}
 
@@ -137,6 +136,6 @@ case_order : situation_of one (critical one ten) minus_two_half nought ≡ TurnO
 unfolding situation_of critical absolute_of ln_of ln_positive ln_answer ln_size ln_word z_word horner rounded packed count_leading_zeros of_bits size add sub mul div neg lt le
 case_order = refl
 
-case_order_ends : model_at nought ten one (limited one (critical one ten) minus_two_half nought) ≡ NotFinite
+case_order_ends : model_at nought ten one (limited one (critical one ten) minus_two_half nought) ≡ None
 unfolding model_at limited critical absolute_of ln_of ln_positive ln_answer ln_size ln_word z_word horner rounded packed count_leading_zeros of_bits size add sub mul div neg lt le exp_of
 case_order_ends = refl

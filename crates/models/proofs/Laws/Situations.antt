@@ -1,6 +1,6 @@
 -- The limiting rule by its situations: exactly one holds, whatever the numbers, and its formula is the rule. Assumes nothing; NaN, infinities and thermal voltages
 -- of zero or below are numbers like any other here.
-use Rattle.std.specs.Prelude.{◌≡◌, refl, Bool, true, false, cond, Float}
+use Rattle.std.specs.Prelude.{◌≡◌, refl, Bool, true, false, cond, None, Float}
 use Rattle.std.proofs.Common.{sym, ap, ◌∙◌}
 use Rattle.std.specs.Float.{nan}
 use Rattle.std.specs.Float.Ieee.{div}
@@ -11,7 +11,6 @@ use Rattle.models.specs.Signs.{◌⊕◌, ◌⊗◌, ◌⊘◌}
 use Rattle.models.specs.Diode.{limited, linearized, critical, thermal}
 use Rattle.models.specs.Situation.{small, below, resting, argument, falling, situation_of, limited_in}
 use Rattle.models.specs.Laws.Situations.{Holds, times_nan, plus_nan, nan_asked, nan_model}
-use Rattle.models.specs.declared.diode.Linear.TheVariants.{NotFinite}
 use Rattle.models.specs.declared.diode.Situation.{Situation}
 use Rattle.models.specs.declared.diode.Situation.TheVariants.{SmallStep, BelowCritical, TurnOn, FallBack, Climb}
 
@@ -76,6 +75,6 @@ nan_limited vt vcrit last = limited_chosen vt vcrit nan last ∙ ap (λ (s : Sit
     go false = ap (λ (x : Float). last ⊕ vt ⊗ x) ln_nan ∙ ap (λ (x : Float). last ⊕ x) (times_nan vt) ∙ plus_nan last
 
 -- so a diode that is asked to stand at a NaN has no model, which is 22, whatever it remembers
-pub nan_ends : (o : Options) (isat tdegc last : Float) → linearized o isat tdegc nan last ≡ NotFinite
+pub nan_ends : (o : Options) (isat tdegc last : Float) → linearized o isat tdegc nan last ≡ None
 unfolding linearized
 nan_ends o isat tdegc last = rw (nan_limited (thermal o tdegc) (critical (thermal o tdegc) isat) last) (nan_model o.gmin isat (thermal o tdegc))

@@ -1,6 +1,6 @@
 -- A sine source at time 0.0 is never refused, whatever its numbers: its argument is a zero of either sign or a NaN, and sin answers both.
 -- Clients cite argument_at_zero and sine_at_zero. Assumes nothing.
-use Rattle.std.specs.Prelude.{ℕ, zero, suc, ◌+◌, ◌*◌, ◌^◌, ◌<◌, ◌≡◌, Bool, true, false, eqb, leb, Float}
+use Rattle.std.specs.Prelude.{ℕ, zero, suc, ◌+◌, ◌*◌, ◌^◌, ◌<◌, ◌≡◌, Bool, true, false, eqb, leb, cond, Some, None, Float}
 use Rattle.std.proofs.Math.Path.{refl, ap}
 use Rattle.std.proofs.Common.{sym, ◌∙◌, mul-zero, mul-pos, zero-lt-suc, arith, eqb-true, le-leb, pow_pos}
 use Rattle.std.proofs.lemmas.Bool.{false≢true}
@@ -12,8 +12,7 @@ use Rattle.std.specs.Float.Ieee.Fits.{up_pos, down_pos}
 use Rattle.numbers.specs.Verdicts.{settled}
 use Rattle.num.specs.Floats.{nought}
 use Rattle.num.specs.Literals.{two}
-use Rattle.functions.specs.Sin.{pick, sin_near, sin_of}
-use Rattle.functions.specs.declared.Sine.TheVariants.{Value as Is, Refused as No}
+use Rattle.functions.specs.Sin.{sin_near, sin_of}
 use Rattle.models.specs.Signs.{◌⊗◌}
 use Rattle.models.specs.Sine.{PI, level_of, sine_at, numbers_of}
 
@@ -50,7 +49,7 @@ argument_at_zero freq = times_zero (two ⊗ PI ⊗ freq)
 -- ---- sin there
 
 module _ (vo va : Float) where
-  picked : (b : Bool) (y : Float) → b ≡ true → (numbers_of (level_of vo va (pick b (Is y) No))).verdict ≡ settled
+  picked : (b : Bool) (y : Float) → b ≡ true → (numbers_of (level_of vo va (cond b (Some y) None))).verdict ≡ settled
   unfolding level_of
   picked b y e = rw e
 

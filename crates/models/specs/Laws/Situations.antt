@@ -1,6 +1,6 @@
 -- When a situation of the limiting rule holds, and what a NaN does to a diode. That exactly one holds, whatever the numbers, and that its formula is the rule is in proofs/Laws/Situations.
 -- Assumes nothing; NaN, infinities and thermal voltages of zero or below are numbers like any other here.
-use Rattle.std.specs.Prelude.{◌≡◌, refl, Bool, true, false, cond, Float}
+use Rattle.std.specs.Prelude.{◌≡◌, refl, Bool, true, false, cond, Some, None, Float}
 use Rattle.std.specs.Float.{nan, inf, fin}
 use Rattle.std.specs.Float.Ieee.{add, sub, mul, div, neg, lt, eq, le, is_nan, of_bits}
 use Rattle.std.specs.Float.Ieee.Scale.{finite}
@@ -10,9 +10,8 @@ use Rattle.options.specs.declared.Options.{Options}
 use Rattle.functions.specs.Exp.{exp_of}
 use Rattle.functions.specs.Laws.Values.{exp_nan}
 use Rattle.models.specs.Signs.{◌⊕◌, ◌⊖◌, ◌⊗◌, ◌⊘◌}
-use Rattle.models.specs.Diode.{limited, model_at, linearized, critical, thermal, numbers_of}
+use Rattle.models.specs.Diode.{limited, model_at, model_of, linearized, critical, thermal, numbers_of}
 use Rattle.models.specs.Situation.{small, below, resting, argument, falling, situation_of}
-use Rattle.models.specs.declared.diode.Linear.TheVariants.{Model, NotFinite}
 use Rattle.models.specs.declared.diode.Situation.{Situation}
 use Rattle.models.specs.declared.diode.Situation.TheVariants.{SmallStep, BelowCritical, TurnOn, FallBack, Climb}
 
@@ -44,12 +43,12 @@ unfolding situation_of absolute_of sub add div neg lt le eq of_bits
 nan_asked vt vcrit last = refl
 
 -- at a NaN there is no model
-pub nan_model : (gmin isat vt : Float) → model_at gmin isat vt nan ≡ NotFinite
+pub nan_model : (gmin isat vt : Float) → model_at gmin isat vt nan ≡ None
 unfolding model_at div sub add
 nan_model gmin isat vt = rw (exp_nan, times_nan isat)
 
 -- what a model leaves to remember is the limited voltage or, with 22, what was remembered before
-number_kept : (b : Bool) (g i x last : Float) → is_nan x ≡ false → is_nan last ≡ false → is_nan (numbers_of last (cond b (Model g i x) NotFinite)).memory ≡ false
+number_kept : (b : Bool) (g i x last : Float) → is_nan x ≡ false → is_nan last ≡ false → is_nan (numbers_of last (cond b (Some (model_of g i x)) None)).memory ≡ false
 number_kept true g i x last k h = k
 number_kept false g i x last k h = h
 

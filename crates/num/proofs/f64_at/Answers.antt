@@ -1,5 +1,4 @@
 use Rattle.num.specs.Le.{float_at}
-use borrow.Author.Rules.{rules}
 use Rattle.num.proofs.f64_at.Goals as goal
 
 pub returns : goal.returns

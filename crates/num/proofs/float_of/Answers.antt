@@ -1,10 +1,9 @@
--- `num::float_of` meets its contract: above the infinity's pattern, the sign aside, stand the NaNs, and 0.0 / 0.0 is `nan`.
+-- `num::float_of` meets its contract: above the infinity's pattern, the sign aside, stand the NaNs, and `f64::NAN` is `nan`.
 -- Assumes nothing.
-use borrow.Author.Rules.{rules}
 use borrow.Author.Tests.{lt-ltb, le-ltb}
 use mathlib.Core.Path.{◌≡◌, refl, sym, ◌∙◌}
 use mathlib.Core.Bool.{true}
-use lib.Ieee.{Float, nan, inf, fin, binary64, of_bits, div, is_nan, of_fields, odd}
+use lib.Ieee.{Float, nan, inf, fin, binary64, of_bits, is_nan, of_fields, odd}
 use lib.Ieee.Bits.{nan_bits_above, nan_bits_is}
 use Rattle.num.proofs.float_of.Goals as goal
 
@@ -14,8 +13,8 @@ is-nan nan e = refl
 is-nan (inf s) e = cc
 is-nan (fin s m x) e = cc
 
-none : div binary64 (of_bits binary64 0) (of_bits binary64 0) ≡ nan
-unfolding div of_bits of_fields odd
+none : of_bits binary64 0x7ff8000000000000 ≡ nan
+unfolding of_bits of_fields odd
 none = refl
 
 pub float_from_bits-result : goal.float_from_bits-result

@@ -1,19 +1,10 @@
-use mathlib.Core.Path.{sym, ◌∙◌}
-use native.Mathlib.Omega.{arith}
-use Rattle.num.specs.Le.{le64}
-use borrow.Author.Rules.{rules}
-use borrow.Author.Tests.{leb-true}
+-- `num::u64_at` meets its contract: its eight bytes are worth what the two halves of `le64` are.
+use Rattle.std.proofs.Common.{arith, add-zero, add_assoc}
+use Rattle.num.specs.Le.{le32, le64}
 use Rattle.num.proofs.u64_at.Goals as goal
 
-pub four-requires : goal.four-requires
-four-requires c = omega (arith, leb-true _ _ (sym c.whole.ensures ∙ c.if-whole.true))
-
-pub overflow_add-at : goal.overflow_add-at
-overflow_add-at c = omega (arith, leb-true _ _ (sym c.whole.ensures ∙ c.if-whole.true))
-
-pub four-requires-then-whole : goal.four-requires-then-whole
-four-requires-then-whole c = omega (arith, leb-true _ _ (sym c.whole.ensures ∙ c.if-whole.true))
-
-pub returns-then-whole : goal.returns-then-whole
-unfolding le64
-returns-then-whole c = omega arith
+pub returns : goal.returns
+unfolding le64 le32
+returns c =
+    let b = c.bytes_at.ensures in
+    simp add_assoc (omega (arith, rw add-zero at (b 0 (omega arith)), b 1 (omega arith), b 2 (omega arith), b 3 (omega arith), b 4 (omega arith), b 5 (omega arith), b 6 (omega arith), b 7 (omega arith)))

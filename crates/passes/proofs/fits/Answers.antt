@@ -22,14 +22,14 @@ returns-then-accepted-n c = rw (le-leb _ _ c.if-n-lt1.false, le-leb _ _ c.if-n-g
 pub overflow_mul-size : goal.overflow_mul-size
 overflow_mul-size c = record { fits = lt_of_le_of_lt (mul-le-mul {n₂ = 48} {m₂ = 49} c.if-n-gt-UNKNOWNS.false (omega arith)) (lit< {m = 48 * 49} tt) }
 
-pub returns-then-base-size : goal.returns-then-base-size
+pub returns-then-w-size : goal.returns-then-w-size
 unfolding fits
-returns-then-base-size c = rw (le-leb _ _ c.if-n-lt1.false, le-leb _ _ c.if-n-gt-UNKNOWNS.false, eq-eqb _ _ c.if-accepted-n.false, ne_eqb _ _ c.if-base-size.true)
+returns-then-w-size c = rw (le-leb _ _ c.if-n-lt1.false, le-leb _ _ c.if-n-gt-UNKNOWNS.false, eq-eqb _ _ c.if-accepted-n.false, ne_eqb _ _ c.if-w-size.true)
 
-pub returns-then-elimination-size : goal.returns-then-elimination-size
+pub returns-then-w-size-2 : goal.returns-then-w-size-2
 unfolding fits
-returns-then-elimination-size c = rw (le-leb _ _ c.if-n-lt1.false, le-leb _ _ c.if-n-gt-UNKNOWNS.false, eq-eqb _ _ c.if-accepted-n.false, eq-eqb _ _ c.if-base-size.false, ne_eqb _ _ c.if-elimination-size.true)
+returns-then-w-size-2 c = rw (le-leb _ _ c.if-n-lt1.false, le-leb _ _ c.if-n-gt-UNKNOWNS.false, eq-eqb _ _ c.if-accepted-n.false, eq-eqb _ _ c.if-w-size.false, ne_eqb _ _ c.if-w-size-2.true)
 
 pub returns : goal.returns
 unfolding fits
-returns c = rw (le-leb _ _ c.if-n-lt1.false, le-leb _ _ c.if-n-gt-UNKNOWNS.false, eq-eqb _ _ c.if-accepted-n.false, eq-eqb _ _ c.if-base-size.false, eq-eqb _ _ c.if-elimination-size.false)
+returns c = rw (le-leb _ _ c.if-n-lt1.false, le-leb _ _ c.if-n-gt-UNKNOWNS.false, eq-eqb _ _ c.if-accepted-n.false, eq-eqb _ _ c.if-w-size.false, eq-eqb _ _ c.if-w-size-2.false)

@@ -3,6 +3,7 @@ use Prim.Native.Nat.{ℕ, ◌<◌, ◌-◌}
 use mathlib.Core.Path.{◌≡◌, refl, sym, ap, ◌∙◌, subst}
 use mathlib.Core.Bool.{Bool, true, ◌&&◌, false≢true, and-eq-true_iff as both}
 use mathlib.Core.List.{List}
+use borrow.Author.Rules.{rules}
 use lib.ListN.{length}
 use lib.Ieee.{Float}
 use native.Mathlib.Omega.{arith}
@@ -12,7 +13,7 @@ use Rattle.steps.specs.Counters.{going}
 use Rattle.machine.specs.State.{State}
 use Rattle.machine.specs.Machine.{pass, run_for}
 use Rattle.machine.specs.Laws.Budget.{run_stopped, run_step}
-use Rattle.passes.specs.Laws.Sized.{resized}
+use Rattle.passes.specs.Laws.Lent.{after}
 use Rattle.passes.specs.Attempt.{circuit_of, attempt_of}
 use Rattle.passes.specs.Again.{alike, Holder, Holds, Usable}
 use Rattle.passes.proofs.Again.{later, next_pass}
@@ -43,7 +44,7 @@ usable j n n₀ h₀ sheet places points known a g c acc base held s v y e lh ho
     }
 
 pub loop-left-init : goal.loop-left-init
-loop-left-init c = record { la = refl; lh = refl; le = refl; ls = refl; lv = refl; lm = refl; lr = refl; ready = λ k g a. absurd (false≢true k); same = refl }
+loop-left-init c = record { la = refl; lh = refl; lr = refl; kept = search rules; base = refl; ready = λ k g a. absurd (false≢true k); same = refl }
 
 pub shape_of-accepted-then-not-going : goal.shape_of-accepted-then-not-going
 shape_of-accepted-then-not-going c = c.loop-left.invariant.la
@@ -51,30 +52,23 @@ shape_of-accepted-then-not-going c = c.loop-left.invariant.la
 pub shape_of-held-then-not-going : goal.shape_of-held-then-not-going
 shape_of-held-then-not-going c = c.loop-left.invariant.lh
 
-pub shape_of-elimination-then-not-going : goal.shape_of-elimination-then-not-going
-shape_of-elimination-then-not-going c = c.loop-left.invariant.le
-
-pub shape_of-system-then-not-going : goal.shape_of-system-then-not-going
-shape_of-system-then-not-going c = c.loop-left.invariant.ls
-
-pub shape_of-vector-then-not-going : goal.shape_of-vector-then-not-going
-shape_of-vector-then-not-going c = c.loop-left.invariant.lv
-
-pub shape_of-memory-then-not-going : goal.shape_of-memory-then-not-going
-shape_of-memory-then-not-going c = c.loop-left.invariant.lm
-
 pub shape_of-rows-then-not-going : goal.shape_of-rows-then-not-going
 shape_of-rows-then-not-going c = c.loop-left.invariant.lr
 
 pub returns-then-not-going : goal.returns-then-not-going
-returns-then-not-going c = sym (run_stopped _ _ _ _ (sym c.going.ensures ∙ c.if-not-going.true)) ∙ c.loop-left.invariant.same
+returns-then-not-going c =
+    let i = c.loop-left.invariant in
+    record { runs = sym (run_stopped _ _ _ _ (sym c.going.ensures ∙ c.if-not-going.true)) ∙ i.same; kept = i.kept }
 
 pub attempt-r-requires : goal.attempt-r-requires
 attempt-r-requires c =
     let i = c.loop-left.invariant in
     let z = c.requires in
-    let u = usable _ _ _ _ _ _ _ _ _ _ _ _ _ _ _ _ _ i.lv i.lh z.holder i.ready c.alike.ensures c.going.ensures c.if-not-going.false in
-    record { sized = resized _ _ _ _ _ _ _ _ _ z.sized i.lv i.la i.le i.ls; usable = u }
+    let p = i.kept in
+    record {
+      sized = rw (p.vector_length, i.la, p.base_length, p.elimination_length, p.system_length) z.sized;
+      usable = usable _ _ _ _ _ _ _ _ _ _ _ _ _ _ _ _ _ p.vector_length i.lh (rw p.base_length z.holder) i.ready c.alike.ensures c.going.ensures c.if-not-going.false;
+    }
 
 pub take-requires : goal.take-requires
 take-requires c = c.has_inductors-inductors.ensures
@@ -83,7 +77,7 @@ pub follow-s-requires : goal.follow-s-requires
 follow-s-requires c =
     let i = c.loop-left.invariant in
     let z = c.requires in
-    c.attempt-r.auto.vector ∙ (i.lv ∙ (sym z.sized.vectors ∙ sym i.la))
+    c.attempt-r.ensures.kept.0.vector_length ∙ (i.kept.vector_length ∙ (sym z.sized.vectors ∙ sym i.la))
 
 pub overflow_sub-left : goal.overflow_sub-left
 overflow_sub-left c = omega (arith, c.loop-left-test.true)
@@ -98,20 +92,31 @@ loop-left-preserved c =
     let t = c.attempt-r in
     let y = c.take in
     let x = c.follow-s in
+    let p = t.ensures.kept.0 in
     let live = sym c.going.ensures ∙ c.if-not-going.false in
-    let lv = t.auto.vector in
-    let took = takes_over _ _ _ _ _ _ _ _ _ _ _ _ (sym lv) t.ensures.all y.ensures in
+    let took = takes_over _ _ _ _ _ _ _ _ _ _ _ _ (sym p.vector_length) t.ensures.all y.ensures in
     let passed = pass_joins _ _ _ _ _ _ _ _ _ _ _ _ _ _ _ took _ live x.ensures in
     record {
       la = x.auto.accepted ∙ i.la;
       lh = t.auto.held ∙ i.lh;
-      le = t.auto.elimination ∙ i.le;
-      ls = t.auto.system ∙ i.ls;
-      lv = lv ∙ i.lv;
-      lm = y.auto.memory ∙ (t.auto.memory ∙ i.lm);
       lr = x.auto.rows ∙ i.lr;
-      ready = λ k g b. resize _ _ _ _ _ _ _ _ _ _ _ _ i.lv (next_pass _ _ _ _ _ _ _ _ _ _ _ _ _ _ _ t.ensures.left y.ensures _ x.ensures g b);
-      same = taken _ _ _ _ _ _ _ _ l.left i.lv passed c.loop-left-test.true i.same;
+      kept = after
+          (record {
+            base = p.base;
+            system = p.system;
+            elimination = p.elimination;
+            vector = p.vector;
+            memory = p.memory;
+            base_length = p.base_length;
+            system_length = p.system_length;
+            elimination_length = p.elimination_length;
+            vector_length = p.vector_length;
+            memory_length = y.auto.memory ∙ p.memory_length;
+          })
+          i.kept;
+      base = t.ensures.kept.1 ∙ i.base;
+      ready = λ k g b. resize _ _ _ _ _ _ _ _ _ _ _ _ i.kept.vector_length (next_pass _ _ _ _ _ _ _ _ _ _ _ _ _ _ _ t.ensures.left y.ensures _ x.ensures g b);
+      same = rw t.ensures.kept.1 (taken _ _ _ _ _ _ _ _ l.left i.kept.vector_length passed c.loop-left-test.true i.same);
     }
 
 pub shape_of-accepted : goal.shape_of-accepted
@@ -120,23 +125,12 @@ shape_of-accepted c = c.loop-left.invariant.la
 pub shape_of-held : goal.shape_of-held
 shape_of-held c = c.loop-left.invariant.lh
 
-pub shape_of-elimination : goal.shape_of-elimination
-shape_of-elimination c = c.loop-left.invariant.le
-
-pub shape_of-system : goal.shape_of-system
-shape_of-system c = c.loop-left.invariant.ls
-
-pub shape_of-vector : goal.shape_of-vector
-shape_of-vector c = c.loop-left.invariant.lv
-
-pub shape_of-memory : goal.shape_of-memory
-shape_of-memory c = c.loop-left.invariant.lm
-
 pub shape_of-rows : goal.shape_of-rows
 shape_of-rows c = c.loop-left.invariant.lr
 
 pub returns : goal.returns
 unfolding run_for
 returns c =
+    let i = c.loop-left.invariant in
     let e : c.loop-left.left ≡ 0 = omega arith in
-    rw e at c.loop-left.invariant.same
+    record { runs = rw e at i.same; kept = i.kept }

@@ -13,8 +13,8 @@ unfolding memory_after
 returns-then-not-inductors c =
     let z = c.requires in
     let a = c.args in
-    let same = nothing_taken (pass_of a.j (length a.vector.now) a.c) a.sheet.now a.vector.now a.memory.now (sym z ∙ c.if-not-inductors.true) in
-    sym (rw same (either_same (takes a.j a.c a.report)))
+    let same = nothing_taken (pass_of a.k.job (length a.vector.now) a.c) a.k.sheet.now a.vector.now a.memory.now (sym z ∙ c.if-not-inductors.true) in
+    sym (rw same (either_same (takes a.k.job a.c a.report)))
 
 pub returns-then-takes : goal.returns-then-takes
 unfolding memory_after

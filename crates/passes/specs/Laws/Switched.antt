@@ -6,8 +6,8 @@ use Rattle.loops.specs.Laws.Loop.{turns_ext}
 use Rattle.options.specs.declared.Options.{Options}
 use Rattle.sheet.specs.declared.Element.{Element}
 use Rattle.sheet.specs.declared.Element.TheVariants.{R, I, «V», D, Isin, Vsin, Vpwl, C, Vcvs, Vccs, L}
-use Rattle.sheet.specs.declared.Decoded.{Decoded}
-use Rattle.sheet.specs.declared.Decoded.TheVariants.{Good, Refused}
+use Rattle.sheet.specs.Record.{Decoded}
+use Rattle.std.specs.declared.result.Result.TheVariants.{Ok, Err}
 use Rattle.sheet.specs.Check.{records_of}
 use Rattle.models.specs.Diode.{thermal, linearized}
 use Rattle.groups.specs.declared.Pass.{Pass}
@@ -45,8 +45,8 @@ module _ (o : Options) (w v : ℕ) where
   biased_same n x i m y (L p q a s) = refl
 
   decoded_same : {X : Type 0} (f g : Element → X) (x : X) → ((e : Element) → f e ≡ g e) → (d : Decoded) → on_record f x d ≡ on_record g x d
-  decoded_same f g x h (Good e) = h e
-  decoded_same f g x h (Refused k) = refl
+  decoded_same f g x h (Ok e) = h e
+  decoded_same f g x h (Err k) = refl
 
   record_same : (sheet : List ℕ) (n : ℕ) (x : List Float) (i : ℕ) (s : Stamped) → biased_at here sheet n x i s ≡ biased_at there sheet n x i s
   unfolding biased_at

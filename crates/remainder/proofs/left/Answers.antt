@@ -1,13 +1,10 @@
 -- A common power of two goes through the division.
-use Rattle.std.proofs.Common.{◌≡◌, ℕ, ◌-◌, ◌*◌, ◌%◌, ◌^◌, ◌<◌, ◌≤◌, sym, ap, ◌∙◌, arith, pow_pos, mul-pos, mul_assoc, mul-div_cancel, sub-add_cancel, add-zero, mod-lt, le_of_lt, lt_of_lt_of_le, lt_of_le_of_lt}
-use Rattle.std.proofs.Math.Nat.{mul-mod_left, min-eq_left, min-eq_right, mod-le}
+use Rattle.std.proofs.Common.{◌≡◌, ℕ, ◌-◌, ◌*◌, ◌%◌, ◌^◌, ◌<◌, ◌≤◌, sym, ap, ◌∙◌, arith, pow_pos, mul-pos, mul_assoc, sub-add_cancel, mod-lt, le_of_lt, lt_of_lt_of_le, lt_of_le_of_lt}
+use Rattle.std.proofs.Math.Nat.{min-eq_left, min-eq_right, mod-le}
 use Rattle.std.proofs.lemmas.Nat.{mul-mod_first}
-use lib.Arith.{mod-mul}
 use lib.Pow.{pow-add}
+use Rattle.remainder.proofs.Remains.{scaled}
 use Rattle.remainder.proofs.left.Goals as goal
-
-scaled : (x n c : ℕ) → 0 < n → 0 < c → x % n * c ≡ (x * c) % (n * c)
-scaled x n c p q = sym (mod-mul (x * c) p q ∙ rw (mul-mod_left x c, mul-div_cancel x q) (add-zero (x % n * c)))
 
 parted : (p q : ℕ) → q ≤ p → 2 ^ (p - q) * 2 ^ q ≡ 2 ^ p
 parted p q h = sym (pow-add 2 (p - q) q) ∙ ap (λ (z : ℕ). 2 ^ z) (sub-add_cancel h)
@@ -23,22 +20,24 @@ below m p n q s h =
     scaled m (n * 2 ^ (q - p)) (2 ^ p) (mul-pos s (pow_pos (q - p))) (pow_pos p)
     ∙ ap (λ (z : ℕ). (m * 2 ^ p) % z) (mul_assoc n (2 ^ (q - p)) (2 ^ p) ∙ ap (λ (z : ℕ). n * z) (parted q p h))
 
-pub returns-then-q-p : goal.returns-then-q-p
-returns-then-q-p c =
-    let a = c.args in
-    let h : a.q ≤ a.p = omega arith in
+pub returns-then-b-a : goal.returns-then-b-a
+returns-then-b-a c =
+    let a = c.args.a in
+    let b = c.args.b in
+    let h : b.place ≤ a.place = omega arith in
     let e = c.doubled.ensures in
     record {
-      value = rw (min-eq_right h, e) (above a.m a.p a.n a.q c.requires.some h);
+      value = rw (min-eq_right h, e) (above a.digits a.place b.digits b.place c.requires.some h);
       few = rw e (lt_of_lt_of_le (mod-lt _ c.requires.some) (le_of_lt c.requires.others));
     }
 
 pub returns : goal.returns
 returns c =
-    let a = c.args in
-    let h : a.p ≤ a.q = omega arith in
+    let a = c.args.a in
+    let b = c.args.b in
+    let h : a.place ≤ b.place = omega arith in
     let e = c.short.ensures in
     record {
-      value = rw (min-eq_left h, e) (below a.m a.p a.n a.q c.requires.some h);
+      value = rw (min-eq_left h, e) (below a.digits a.place b.digits b.place c.requires.some h);
       few = rw e (lt_of_le_of_lt (mod-le _ _) c.requires.digits);
     }

@@ -16,7 +16,7 @@ unfolding of_bits
 no_number = refl
 
 pub returns-then-not-finite : goal.returns-then-not-finite
-returns-then-not-finite c = c.float_of.ensures ∙ no_number ∙ blank _ _ (sym c.finite.ensures ∙ c.if-not-finite.true)
+returns-then-not-finite c = no_number ∙ blank _ _ (sym c.finite.ensures ∙ c.if-not-finite.true)
 
 pub returns-then-y : goal.returns-then-y
 returns-then-y c = past _ _ (sym c.finite.ensures ∙ c.if-not-finite.false) (sym c.finite-2.ensures ∙ c.if-not-finite-2.true) c.if-y.true
@@ -29,8 +29,7 @@ returns-then-b-eq0 c =
     let k = sym c.finite-2.ensures ∙ c.if-not-finite-2.false in
     let b = c.digits_of-b.result in
     let z : b.digits * 2 ^ b.place ≡ 0 = ap (λ (d : ℕ). d * 2 ^ b.place) c.if-b-eq0.true ∙ zero-mul (2 ^ b.place) in
-    c.float_of-then-b-eq0.ensures
-    ∙ no_number
+    no_number
     ∙ alike _ _ (passes _ c.well_formed.1.0.1) (sym c.finite.ensures ∙ c.if-not-finite.false) k (sym (c.digits_of-b.ensures (holds _ k)).0 ∙ z)
 
 pub left-requires-clause-digits : goal.left-requires-clause-digits
@@ -43,7 +42,7 @@ pub put-requires-clause-low : goal.put-requires-clause-low
 put-requires-clause-low c =
     let l : c.digits_of-a.result.place ≤ 2045 = (c.digits_of-a.ensures (holds _ (sym c.finite.ensures ∙ c.if-not-finite.false))).1.low in
     let m = min-le_left c.digits_of-a.result.place c.digits_of-b.result.place in
-    rw c.lower.ensures (le_trans m l)
+    rw c.min.ensures (le_trans m l)
 
 pub returns : goal.returns
 returns c =
@@ -55,5 +54,5 @@ returns c =
     let y = c.digits_of-b.ensures (holds _ k) in
     let some : 0 < b.digits * 2 ^ b.place = mul-pos (omega arith) (pow_pos b.place) in
     c.put.ensures
-    ∙ ap (λ (n : ℕ). round binary64 a.minus n (2 ^ 1074)) (ap (λ (n : ℕ). c.left.result * 2 ^ n) c.lower.ensures ∙ c.left.ensures.value)
+    ∙ ap (λ (n : ℕ). round binary64 a.minus n (2 ^ 1074)) (ap (λ (n : ℕ). c.left.result * 2 ^ n) c.min.ensures ∙ c.left.ensures.value)
     ∙ rw (x.0, y.0, x.2) (sym (remains c.args.x c.args.y (passes _ c.well_formed.0.1) (passes _ c.well_formed.1.0.1) h k (subst (λ (n : ℕ). 0 < n) y.0 some)))

@@ -1,7 +1,7 @@
 -- Below the other's place nothing is left out; else the digits above it are divided by themselves.
-use Rattle.std.proofs.Common.{◌≡◌, ℕ, ◌*◌, ◌%◌, ◌^◌, ◌<◌, ◌≤◌, sym, ap, ◌∙◌, arith, mod-eq_of_lt, one-mul, pow_pos, pow_mono, lt_of_lt_of_le, le_trans, mul-le-mul_right}
+use Rattle.std.proofs.Common.{◌≡◌, ℕ, ◌*◌, ◌%◌, ◌^◌, ◌<◌, ◌≤◌, sym, arith, mod-eq_of_lt, one-mul, pow_pos, pow_mono, lt_of_lt_of_le, le_trans, mul-le-mul_right}
 use lib.Arith.{mod-mul}
-use lib.Pow.{pow-lt}
+use Rattle.remainder.proofs.Value.{shifted}
 use Rattle.remainder.proofs.short.Goals as goal
 
 far : (m n d : ℕ) → 0 < n → m < 2 ^ 53 → 53 ≤ d → m ≡ m % (n * 2 ^ d)
@@ -9,9 +9,6 @@ far m n d p h g = sym (mod-eq_of_lt (lt_of_lt_of_le h (le_trans (pow_mono g) (at
   where
     at_least : (a b : ℕ) → 0 < a → b ≤ a * b
     at_least a b q = rw (one-mul b) at (mul-le-mul_right b q)
-
-shifted : (d : ℕ) → d < 53 → (1 * 2 ^ d) % 18446744073709551616 ≡ 2 ^ d
-shifted d h = ap (λ (z : ℕ). z % 18446744073709551616) (one-mul (2 ^ d)) ∙ mod-eq_of_lt (pow-lt {i = d} {j = 64} (omega arith))
 
 pub returns-then-d-ge53 : goal.returns-then-d-ge53
 returns-then-d-ge53 c = far c.args.m c.args.n c.args.d c.requires.some c.requires.digits (omega arith)

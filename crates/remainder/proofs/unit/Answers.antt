@@ -1,15 +1,13 @@
 -- Below 2^-1022 the bit itself is the number; from there on the exponent's field, one digit below its leading one.
-use Rattle.std.proofs.Common.{◌≡◌, ℕ, ◌+◌, ◌-◌, ◌*◌, ◌/◌, ◌%◌, ◌^◌, ◌<◌, ◌≤◌, Bool, false, sym, ap, ◌∙◌, subst, arith, mod-eq_of_lt, one-mul, mul-one, nat_le}
+use Rattle.std.proofs.Common.{◌≡◌, ℕ, ◌+◌, ◌-◌, ◌*◌, ◌/◌, ◌%◌, ◌^◌, ◌<◌, ◌≤◌, Bool, false, sym, ap, ◌∙◌, subst, arith, mod-eq_of_lt, mul-one, nat_le}
 use borrow.Author.Tests.{lt-leb}
 use lib.Pow.{pow-add, pow-lt}
 use Rattle.std.specs.Float.{binary64}
 use Rattle.std.specs.Float.Ieee.{of_bits}
 use Rattle.std.specs.Float.Ieee.Exact.{HasValue}
 use Rattle.functions.specs.Laws.Bits64.{subnormal, put_together, no_nan}
+use Rattle.remainder.proofs.Value.{shifted}
 use Rattle.remainder.proofs.unit.Goals as goal
-
-shifted : (d : ℕ) → d < 53 → (1 * 2 ^ d) % 18446744073709551616 ≡ 2 ^ d
-shifted d h = ap (λ (z : ℕ). z % 18446744073709551616) (one-mul (2 ^ d)) ∙ mod-eq_of_lt (pow-lt {i = d} {j = 64} (omega arith))
 
 few : (b : ℕ) → b < 2 ^ 52 → HasValue (of_bits binary64 b) false b (2 ^ 1074)
 few b h =

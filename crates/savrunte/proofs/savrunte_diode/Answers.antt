@@ -3,10 +3,10 @@ use Rattle.std.proofs.Common.{sym, ap, ◌∙◌}
 use Rattle.savrunte.specs.Answers.{diode_answer}
 use Rattle.savrunte.proofs.savrunte_diode.Goals as goal
 
-pub returns-in-Model : goal.returns-in-Model
+pub returns-in-Some : goal.returns-in-Some
 unfolding diode_answer
-returns-in-Model c = ap (diode_answer _) (sym c.in-Model.is ∙ c.linearize-d.ensures)
+returns-in-Some c = ap (diode_answer _) (sym c.in-Some.is ∙ c.linearize-d.ensures)
 
-pub returns-in-NotFinite : goal.returns-in-NotFinite
+pub returns-in-None : goal.returns-in-None
 unfolding diode_answer
-returns-in-NotFinite c = ap (diode_answer _) (sym c.in-NotFinite.is ∙ c.linearize-d.ensures)
+returns-in-None c = ap (diode_answer _) (sym c.in-None.is ∙ c.linearize-d.ensures)

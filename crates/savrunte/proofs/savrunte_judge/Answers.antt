@@ -1,16 +1,16 @@
 -- Each case of the judge is one of the definition's.
-use Rattle.std.proofs.Common.{sym, ap, ◌∙◌}
+use Rattle.std.proofs.Common.{ap}
 use Rattle.savrunte.specs.Answers.{judge_answer}
 use Rattle.savrunte.proofs.savrunte_judge.Goals as goal
 
-pub returns-in-Accepted : goal.returns-in-Accepted
+pub returns-in-Ok-Accepted : goal.returns-in-Ok-Accepted
 unfolding judge_answer
-returns-in-Accepted c = ap (judge_answer _) (sym c.in-Accepted.is ∙ c.judge-j.ensures)
+returns-in-Ok-Accepted c = ap (judge_answer _) (rw c.in-Ok-Accepted.field-0-is at c.in-Ok-Accepted.ensures)
 
-pub returns-in-Rejected : goal.returns-in-Rejected
+pub returns-in-Ok-Rejected : goal.returns-in-Ok-Rejected
 unfolding judge_answer
-returns-in-Rejected c = ap (judge_answer _) (sym c.in-Rejected.is ∙ c.judge-j.ensures)
+returns-in-Ok-Rejected c = ap (judge_answer _) (rw c.in-Ok-Rejected.field-0-is at c.in-Ok-Rejected.ensures)
 
-pub returns-in-Refused : goal.returns-in-Refused
+pub returns-in-Err : goal.returns-in-Err
 unfolding judge_answer
-returns-in-Refused c = ap (judge_answer _) (sym c.in-Refused.is ∙ c.judge-j.ensures)
+returns-in-Err c = rw c.number.ensures (ap (judge_answer _) c.in-Err.ensures)

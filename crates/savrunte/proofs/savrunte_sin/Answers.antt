@@ -3,10 +3,10 @@ use Rattle.std.proofs.Common.{sym, ap, ◌∙◌}
 use Rattle.savrunte.specs.Answers.{sin_answer}
 use Rattle.savrunte.proofs.savrunte_sin.Goals as goal
 
-pub returns-in-Value : goal.returns-in-Value
+pub returns-in-Some : goal.returns-in-Some
 unfolding sin_answer
-returns-in-Value c = ap sin_answer (sym c.in-Value.is ∙ c.sin-s.ensures)
+returns-in-Some c = ap sin_answer (sym c.in-Some.is ∙ c.sin-s.ensures)
 
-pub returns-in-Refused : goal.returns-in-Refused
+pub returns-in-None : goal.returns-in-None
 unfolding sin_answer
-returns-in-Refused c = ap sin_answer (sym c.in-Refused.is ∙ c.sin-s.ensures)
+returns-in-None c = ap sin_answer (sym c.in-None.is ∙ c.sin-s.ensures)

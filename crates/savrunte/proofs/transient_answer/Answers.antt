@@ -9,4 +9,4 @@ returns-in-Refused c = ap transient_answer (sym c.in-Refused.is)
 
 pub returns-in-Ended : goal.returns-in-Ended
 unfolding transient_answer
-returns-in-Ended c = ap transient_answer (sym c.in-Ended.is)
+returns-in-Ended c = rw (c.number.ensures, c.number-in-Ended.ensures) (ap transient_answer (sym c.in-Ended.is))

@@ -1,22 +1,16 @@
 -- `sheet::check_sheet` meets its contract: what is left of the check from record i on is the whole, and the first record that shares its number is not yet passed. Assumes nothing.
-use Prim.Native.Nat.{ℕ, ◌≤◌, ◌<◌, ◌+◌, ◌-◌, suc}
-use mathlib.Core.Path.{◌≡◌, refl, sym, ◌∙◌, ap, subst}
-use mathlib.Core.List.{List}
-use mathlib.Core.Bool.{Bool, true, false, not, false≢true}
-use native.Mathlib.Omega.{arith}
-use native.Mathlib.Nat.{sub-zero}
-use borrow.Author.Tests.{eq-eqb, ne_eqb, eqb-true, eqb-false}
-use lib.Dec.{eqb}
-use Rattle.sheet.specs.Record.{record_at, decode_of}
-use Rattle.sheet.specs.Range.{element_fault}
-use Rattle.sheet.specs.Sharing.{alone, FirstShared}
-use Rattle.sheet.specs.Check.{check_from, check_step, record_refusal}
-use Rattle.sheet.specs.Laws.Inside.{inside_of_lem}
-use Rattle.sheet.specs.declared.Element.{Element}
+use Rattle.std.proofs.Common.{◌≡◌, ◌∙◌, sym, refl, subst, ℕ, suc, ◌+◌, ◌-◌, ◌<◌, ◌≤◌, List, Bool, true, false, not, arith, rules, Result, Ok, Err, MatchResult}
+use Rattle.std.proofs.lemmas.Bool.{eqb-false, false≢true}
+use Rattle.std.proofs.Common.{eqb-true}
+use Rattle.std.specs.Prelude.{eqb, ⊤}
+use Rattle.std.proofs.lemmas.Result.{MatchResult-weaker, err_from_is_err_and}
+use Rattle.numbers.specs.declared.refusal.Refusal.{Refusal}
 use Rattle.sheet.specs.declared.Limits.{Limits}
-use Rattle.sheet.specs.declared.Decoded.{Decoded}
-use Rattle.sheet.specs.declared.Decoded.TheVariants.{Good, Refused}
-use Rattle.sheet.specs.declared.Checked.TheVariants.{Faulty}
+use Rattle.sheet.specs.Record.{Decoded, record_at, decode_of}
+use Rattle.sheet.specs.Sharing.{alone, FirstShared}
+use Rattle.sheet.specs.Check.{Checked, faulty, ends_at, record_fault, check_from, records_of}
+use Rattle.sheet.specs.Laws.Ends.{ends_refused, goes_on}
+use Rattle.sheet.specs.Laws.Inside.{inside_of_lem}
 use Rattle.sheet.proofs.check_sheet.Goals as goal
 
 -- record i of so many, which is at or before the first that shares its number: it shares one exactly if it is that record
@@ -29,63 +23,43 @@ not-it : (p i : ℕ) → i ≤ p → (b : Bool) → eqb i p ≡ b → not b ≡ 
 not-it p i l true e h = absurd (false≢true h)
 not-it p i l false e h = omega (arith, l, eqb-false i p e)
 
--- record i has the bytes r
-module _ (s : List ℕ) (i : ℕ) {r : List ℕ} (q : r ≡ record_at s i) where
-  -- the records from i on, the first of them split off
-  module _ (l : Limits) (n : ℕ) (h : i < n) {d : Decoded} (g : d ≡ decode_of r) where
-    opened : check_from s l (n - i) i ≡ check_step l i (alone s i) d (check_from s l (n - (i + 1)) (i + 1))
-    unfolding check_from
-    opened = let e : n - i ≡ suc (n - (i + 1)) = omega arith in rw (e, g, q)
+own_of : (l : Limits) (own : Bool) (d : Decoded) → record_fault l own d ≡ Ok tt → own ≡ true
+own_of l own (Ok e) h = (inside_of_lem l own e h).0
+own_of l own (Err k) h = absurd (let z : ◌≡◌ {A = ℕ} 0 1 = cc in omega arith)
 
-    stops : {k : ℕ} → d ≡ Refused k → check_from s l (n - i) i ≡ Faulty k i
-    stops e = rw e at opened
+-- record i of n, with the fault r
+module _ (s : List ℕ) (l : Limits) (i n : ℕ) (h : i < n) {own : Bool} (a : own ≡ alone s i) (r : Result ⊤ Refusal) (g : r ≡ record_fault l own (decode_of (record_at s i))) where
+  abbrev rest : Checked
+  rest = check_from s l (n - (i + 1)) (i + 1)
 
-    module _ {x : Element} (e : d ≡ Good x) {own : Bool} (a : own ≡ alone s i) {f : ℕ} (k : f ≡ element_fault l own x) where
-      faulty : (f ≡ 0 → ⊥) → check_from s l (n - i) i ≡ Faulty f i
-      faulty z =
-          let y : eqb (element_fault l own x) 0 ≡ false = rw k at (ne_eqb _ _ z) in
-          rw (e, ← a, y, ← k) at opened
+  opened : check_from s l (n - i) i ≡ ends_at i r rest
+  unfolding check_from
+  opened = let e : n - i ≡ suc (n - (i + 1)) = omega arith in rw (e, g, a)
 
-      passes : f ≡ 0 → check_from s l (n - (i + 1)) (i + 1) ≡ check_from s l (n - i) i
-      passes z =
-          let y : eqb (element_fault l own x) 0 ≡ true = eq-eqb _ _ (sym k ∙ z) in
-          sym (rw (e, ← a, y) at opened)
+  goes : r ≡ Ok tt → (own ≡ true) × (rest ≡ check_from s l (n - i) i)
+  goes e = (own_of l own _ (sym g ∙ e), sym (rw e at opened))
 
-pub loop-i-init : goal.loop-i-init
-loop-i-init c = (omega arith, omega arith, rw (sub-zero, c.records-count.ensures))
-
-pub returns-in_default : goal.returns-in_default
-returns-in_default c =
-    let a = c.args in
-    let told = c.in_default.is in
-    let ends = stops a.sheet.now c.loop-i.i refl a.l c.records-count.result c.loop-i-test.true c.element_at-d.ensures told in
-    ap (λ (k : ℕ). Faulty k c.loop-i.i) (c.refusal.ensures ∙ ap record_refusal told) ∙ (sym ends ∙ c.loop-i.invariant.2)
-
-pub returns-then-fault-ne0 : goal.returns-then-fault-ne0
-returns-then-fault-ne0 c =
-    let a = c.args in
-    let n = c.records-count in
-    let h = c.loop-i-test.true in
-    let p = c.first_shared-shared.result in
-    let own = own_at a.sheet.now n.result p c.loop-i.i (rw n.ensures c.first_shared-shared.ensures) h c.loop-i.invariant.1 (eqb c.loop-i.i p) refl in
-    let ends = faulty a.sheet.now c.loop-i.i refl a.l n.result h c.element_at-d.ensures c.in-Good.is own c.element_fault-fault.ensures c.if-fault-ne0.true in
-    sym ends ∙ c.loop-i.invariant.2
+pub returns-in_err-map_err : goal.returns-in_err-map_err
+returns-in_err-map_err c =
+    let s = c.args.sheet.now in
+    let i = c.loop-i.i-counter in
+    let r = c.record_fault.result in
+    let own = own_at s (records_of s) c.first_shared-shared.result i c.first_shared-shared.ensures (omega arith) c.loop-i.invariant.0 (eqb i c.first_shared-shared.result) refl in
+    let p = err_from_is_err_and c.from_residual.result c.from_residual.ensures.1 in
+    let m : MatchResult r (λ u. c.map_err.result ≡ Ok u) (λ k. c.map_err.result ≡ faulty k i) = MatchResult-weaker r c.map_err.ensures.cases (λ u q. search rules) (λ k q. search rules) in
+    let o = opened s c.args.l i (records_of s) (omega arith) own r (rw c.record_at.ensures at c.record_fault.ensures) in
+    rw (p.1, p.2) (sym (o ∙ ends_refused i r _ m c.in_err-map_err.was) ∙ c.loop-i.invariant.1)
 
 pub loop-i-preserved : goal.loop-i-preserved
 loop-i-preserved c =
-    let a = c.args in
-    let n = c.records-count in
-    let h = c.loop-i-test.true in
-    let p = c.first_shared-shared.result in
-    let fault = c.element_fault-fault.ensures in
-    let own = own_at a.sheet.now n.result p c.loop-i.i (rw n.ensures c.first_shared-shared.ensures) h c.loop-i.invariant.1 (eqb c.loop-i.i p) refl in
-    let goes = passes a.sheet.now c.loop-i.i refl a.l n.result h c.element_at-d.ensures c.in-Good.is own fault c.if-fault-ne0.false in
-    let mine = (inside_of_lem _ _ _ (sym fault ∙ c.if-fault-ne0.false)).0 in
-    (omega arith, not-it p c.loop-i.i c.loop-i.invariant.1 (eqb c.loop-i.i p) refl mine, goes ∙ c.loop-i.invariant.2)
+    let s = c.args.sheet.now in
+    let i = c.loop-i.i-counter in
+    let r = c.record_fault.result in
+    let own = own_at s (records_of s) c.first_shared-shared.result i c.first_shared-shared.ensures (omega arith) c.loop-i.invariant.0 (eqb i c.first_shared-shared.result) refl in
+    let m : MatchResult r (λ u. c.map_err.result ≡ Ok u) (λ k. c.map_err.result ≡ faulty k i) = MatchResult-weaker r c.map_err.ensures.cases (λ u q. search rules) (λ k q. search rules) in
+    let g = goes s c.args.l i (records_of s) (omega arith) own r (rw c.record_at.ensures at c.record_fault.ensures) (goes_on i r (Ok tt) m c.in_ok-map_err.was) in
+    (not-it _ i c.loop-i.invariant.0 _ refl g.0, g.1 ∙ c.loop-i.invariant.1)
 
 pub returns : goal.returns
 unfolding check_from
-returns c =
-    let l = c.loop-i in
-    let e : c.records-count.result - l.i ≡ 0 = omega arith in
-    rw e at l.invariant.2
+returns c = let e : records_of c.args.sheet.now - c.loop-i.i-counter ≡ 0 = omega arith in rw e at c.loop-i.invariant.1

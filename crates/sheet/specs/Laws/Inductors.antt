@@ -1,27 +1,24 @@
 -- What the check promises of inductors: in a clean sheet each has its source number to itself; 9 is given at the later of two records that share one; and a sheet without an inductor is checked record by record, none held against another.
 -- Clients cite inductor_alone, later_refused, plain_of and without_inductors. Assumes nothing.
-use Rattle.std.specs.Prelude.{ℕ, zero, suc, ◌+◌, ◌-◌, ◌<◌, ◌≤◌, ◌≡◌, refl, Bool, true, false, cond, ltb, Float}
+use Rattle.std.specs.Prelude.{ℕ, zero, suc, ◌+◌, ◌-◌, ◌<◌, ◌≤◌, ◌≡◌, refl, Bool, true, false, cond, ltb, Float, Ok}
 use Rattle.std.proofs.Common.{sym, ◌∙◌, arith, zero-add, eq-eqb, ne_eqb, ltb-true, ltb-false}
 use Rattle.std.proofs.Math.Path.{ap}
 use Rattle.std.proofs.Math.Bool.{or-true}
 use Rattle.std.proofs.lemmas.Bool.{false≢true}
 use mathlib.Core.List.{List, [], ◌∷◌}
 use Rattle.numbers.specs.Kinds.{inductor}
-use Rattle.numbers.specs.Refusals.{by_source}
+use Rattle.numbers.specs.declared.refusal.Refusal.{Refusal}
 use Rattle.num.specs.Le.{le16}
 use Rattle.sheet.specs.declared.NodeId.{NodeId}
 use Rattle.sheet.specs.declared.SourceId.{SourceId}
 use Rattle.sheet.specs.declared.Limits.{Limits}
 use Rattle.sheet.specs.declared.Element.{Element}
 use Rattle.sheet.specs.declared.Element.TheVariants.{L}
-use Rattle.sheet.specs.declared.Decoded.TheVariants.{Good}
-use Rattle.sheet.specs.declared.Checked.{Checked}
-use Rattle.sheet.specs.declared.Checked.TheVariants.{Clean, Faulty}
 use Rattle.sheet.specs.Record.{record_at, kind_at, source_at, uses_of, decode_of}
 use Rattle.sheet.specs.Kind.{kind_of}
 use Rattle.sheet.specs.Range.{sources_of, nodes_fit, element_fault}
 use Rattle.sheet.specs.Sharing.{is_inductor, has_source, shares, alone}
-use Rattle.sheet.specs.Check.{check_step, check_from, check_of, records_of}
+use Rattle.sheet.specs.Check.{Checked, faulty, check_step, check_from, check_of, records_of}
 use Rattle.sheet.specs.Laws.Inside.{Each}
 use Rattle.sheet.specs.Laws.Kind.{kind_at_lem, sources_at_lem}
 use Rattle.sheet.specs.Laws.Sharing.{each_apart, without_inductor, apart}
@@ -30,7 +27,7 @@ use Rattle.sheet.specs.Laws.Right.{Right, passes, clean_right}
 -- ---- an inductor has its source number to itself
 
 -- the source number of an inductor stands at 10
-module _ (s : List ℕ) (i : ℕ) (p q : NodeId) (x : Float) (n : SourceId) (g : decode_of (record_at s i) ≡ Good (L p q x n)) where
+module _ (s : List ℕ) (i : ℕ) (p q : NodeId) (x : Float) (n : SourceId) (g : decode_of (record_at s i) ≡ Ok (L p q x n)) where
   kind : kind_at s i ≡ inductor
   unfolding kind_of
   kind = kind_at_lem s i (L p q x n) g
@@ -50,7 +47,7 @@ module _ (s : List ℕ) (i : ℕ) (p q : NodeId) (x : Float) (n : SourceId) (g :
       ap (λ (k : SourceId). k.0) m
 
 -- two records of a clean sheet do not share
-module _ (s : List ℕ) (l : Limits) (clean : check_of s l ≡ Clean) (i j : ℕ) (a : i < records_of s) (b : j < records_of s) (d : i ≡ j → ⊥) where
+module _ (s : List ℕ) (l : Limits) (clean : check_of s l ≡ Ok tt) (i j : ℕ) (a : i < records_of s) (b : j < records_of s) (d : i ≡ j → ⊥) where
   different : is_inductor (record_at s i) ≡ true → has_source (record_at s i) ≡ true → has_source (record_at s j) ≡ true → le16 (record_at s j) 10 ≡ le16 (record_at s i) 10 → ⊥
   different t u v = by (ltb i j) refl
     where
@@ -60,9 +57,9 @@ module _ (s : List ℕ) (l : Limits) (clean : check_of s l ≡ Clean) (i j : ℕ
 
 -- In a clean sheet an inductor has its source number to itself: every other record, before it or after it, has another or none.
 pub inductor_alone :
-    (s : List ℕ) (l : Limits) → check_of s l ≡ Clean → (i j : ℕ) → i < records_of s → j < records_of s → (i ≡ j → ⊥)
-    → (p q : NodeId) (henries : Float) (n : SourceId) → decode_of (record_at s i) ≡ Good (L p q henries n)
-    → (e : Element) → decode_of (record_at s j) ≡ Good e → Each (λ (m : SourceId). m.0 ≡ n.0 → ⊥) (sources_of e)
+    (s : List ℕ) (l : Limits) → check_of s l ≡ Ok tt → (i j : ℕ) → i < records_of s → j < records_of s → (i ≡ j → ⊥)
+    → (p q : NodeId) (henries : Float) (n : SourceId) → decode_of (record_at s i) ≡ Ok (L p q henries n)
+    → (e : Element) → decode_of (record_at s j) ≡ Ok e → Each (λ (m : SourceId). m.0 ≡ n.0 → ⊥) (sources_of e)
 inductor_alone s l clean i j a b d p q x n g e h = by (has_source (record_at s j)) refl (sources_at_lem s j e h)
   where
     by : (u : Bool) → has_source (record_at s j) ≡ u → sources_of e ≡ cond u (source_at (record_at s j) 10 ∷ []) [] → Each (λ (m : SourceId). m.0 ≡ n.0 → ⊥) (sources_of e)
@@ -74,8 +71,8 @@ inductor_alone s l clean i j a b d p q x n g e h = by (has_source (record_at s j
 -- 9 is given at the later of two records that share a source number, one of them an inductor, where no earlier record is at fault, it decodes (so that it meets neither 6 nor 7) and its nodes are in range.
 pub later_refused :
     (s : List ℕ) (l : Limits) (i j : ℕ) → j < i → i < records_of s → ((k : ℕ) → k < i → Right s l k)
-    → (e : Element) → decode_of (record_at s i) ≡ Good e → nodes_fit l.nodes e ≡ true → shares (record_at s j) (record_at s i) ≡ true
-    → check_of s l ≡ Faulty by_source i
+    → (e : Element) → decode_of (record_at s i) ≡ Ok e → nodes_fit l.nodes e ≡ true → shares (record_at s j) (record_at s i) ≡ true
+    → check_of s l ≡ faulty Refusal.Source i
 unfolding check_from element_fault
 later_refused s l i j m a r e g n h = ends (records_of s - (i + 1)) (omega arith)
   where
@@ -83,7 +80,7 @@ later_refused s l i j m a r e g n h = ends (records_of s - (i + 1)) (omega arith
     shared true t = absurd (false≢true (sym (each_apart s i (record_at s i) t j m) ∙ h))
     shared false t = refl
 
-    ends : (k : ℕ) → records_of s ≡ i + suc k → check_of s l ≡ Faulty by_source i
+    ends : (k : ℕ) → records_of s ≡ i + suc k → check_of s l ≡ faulty Refusal.Source i
     ends k u =
         ap (λ (n : ℕ). check_from s l n 0) u
         ∙ (passes s l i (suc k) 0 (λ k p q. r k (omega arith)) ∙ rw (zero-add, g, shared (alone s i) refl, n))
@@ -92,7 +89,7 @@ later_refused s l i j m a r e g n h = ends (records_of s - (i + 1)) (omega arith
 
 -- the check in which no record is held against another: n records from i on, and the whole sheet
 unfoldable pub plain_from : List ℕ → Limits → ℕ → ℕ → Checked
-plain_from sheet l zero i = Clean
+plain_from sheet l zero i = Ok tt
 plain_from sheet l (suc n) i = check_step l i true (decode_of (record_at sheet i)) (plain_from sheet l n (i + 1))
 
 abbrev pub plain_of : List ℕ → Limits → Checked

@@ -1,5 +1,5 @@
 -- An element without a fault has its numbers in range, and its source number is its own. Clients cite Inside and inside_of_lem.
-use Rattle.std.specs.Prelude.{ℕ, ◌<◌, ◌≤◌, ◌≡◌, refl, Bool, true, false, ◌&&◌, List, [], ◌∷◌}
+use Rattle.std.specs.Prelude.{ℕ, ◌<◌, ◌≤◌, ◌≡◌, refl, Bool, true, false, ◌&&◌, List, [], ◌∷◌, Ok}
 use Rattle.std.proofs.Math.Bool.{and-eq-true_iff as both}
 use Rattle.std.proofs.Common.{arith, ltb-true, leb-true}
 use Rattle.sheet.specs.declared.NodeId.{NodeId}
@@ -24,13 +24,13 @@ each : {A : Type 0} (t : A → Bool) (P : A → Type 0) → ((x : A) → t x ≡
 each t P f [] h = tt
 each t P f (x ∷ xs) h = let k = (both (t x) (every t xs)).0 h in (f x k.0, each t P f xs k.1)
 
-none : (a b c : Bool) → ◌≡◌ {A = ℕ} (lowest a b c) 0 → (a ≡ true) × (b ≡ true) × (c ≡ true)
-none false b c h = absurd (omega arith)
-none true false c h = absurd (omega arith)
-none true true false h = absurd (omega arith)
+none : (a b c : Bool) → lowest a b c ≡ Ok tt → (a ≡ true) × (b ≡ true) × (c ≡ true)
+none false b c h = absurd (let z : ◌≡◌ {A = ℕ} 0 1 = cc in omega arith)
+none true false c h = absurd (let z : ◌≡◌ {A = ℕ} 0 1 = cc in omega arith)
+none true true false h = absurd (let z : ◌≡◌ {A = ℕ} 0 1 = cc in omega arith)
 none true true true h = (refl, refl, refl)
 
-pub inside_of_lem : (l : Limits) (own : Bool) (e : Element) → element_fault l own e ≡ 0 → (own ≡ true) × Inside l e
+pub inside_of_lem : (l : Limits) (own : Bool) (e : Element) → element_fault l own e ≡ Ok tt → (own ≡ true) × Inside l e
 unfolding element_fault nodes_fit sources_fit points_fit
 inside_of_lem l own e h =
     let k = none (nodes_fit l.nodes e) (own && sources_fit l.sources e) (points_fit l.points e) h in

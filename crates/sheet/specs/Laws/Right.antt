@@ -1,5 +1,5 @@
 -- The table's other half: a sheet is clean exactly when none of its records meets a condition of 6 to 10. Clients cite Right, right_sound, sound_right, passes, all_right and clean_right.
-use Rattle.std.specs.Prelude.{ℕ, zero, suc, ◌+◌, ◌<◌, ◌≤◌, ◌≡◌, refl, Bool, true, false, cond, List, [], ◌∷◌, eqb}
+use Rattle.std.specs.Prelude.{ℕ, zero, suc, ◌+◌, ◌<◌, ◌≤◌, ◌≡◌, refl, Bool, true, false, cond, List, [], ◌∷◌, eqb, Ok, Err}
 use Rattle.std.proofs.Math.Path.{sym, subst}
 use Rattle.std.proofs.Common.{◌∙◌, arith, zero-add, add-zero, suc-add, lt-ltb, le-leb}
 use Rattle.std.proofs.Math.Bool.{and-eq-true_iff as both}
@@ -9,15 +9,11 @@ use Rattle.numbers.specs.Kinds.{resistor, inductor}
 use Rattle.sheet.specs.declared.Limits.{Limits}
 use Rattle.sheet.specs.declared.Element.{Element}
 use Rattle.sheet.specs.declared.Element.TheVariants.{R, I, «V», D, Isin, Vsin, Vpwl, C, Vcvs, Vccs, L}
-use Rattle.sheet.specs.declared.Decoded.{Decoded}
-use Rattle.sheet.specs.declared.Decoded.TheVariants.{Good, Refused}
-use Rattle.sheet.specs.declared.Checked.{Checked}
-use Rattle.sheet.specs.declared.Checked.TheVariants.{Clean}
-use Rattle.sheet.specs.Record.{record_at, kind_at, element_of, uses_of, rest_zero, if_zero, decode_of}
+use Rattle.sheet.specs.Record.{Decoded, record_at, kind_at, element_of, uses_of, rest_zero, if_zero, decode_of}
 use Rattle.sheet.specs.Kind.{kind_of}
 use Rattle.sheet.specs.Range.{nodes_of, sources_of, node_below, source_below, nodes_fit, sources_fit, points_fit, element_fault}
 use Rattle.sheet.specs.Sharing.{alone, shares}
-use Rattle.sheet.specs.Check.{check_step, check_from, check_of, records_of}
+use Rattle.sheet.specs.Check.{Checked, check_step, check_from, check_of, records_of}
 use Rattle.sheet.specs.Laws.Inside.{Each, Inside}
 use Rattle.sheet.specs.Laws.Kind.{Made, element, unknown, soiled, decoded}
 use Rattle.sheet.specs.Laws.Sharing.{each_apart, none_shares_lem}
@@ -29,7 +25,7 @@ pub record Right (s : List ℕ) (l : Limits) (i : ℕ) : Type 0 where
   pub «kind-least» : resistor ≤ kind_at s i
   pub «kind-most» : kind_at s i ≤ inductor
   pub unused : rest_zero (uses_of (kind_at s i)) (record_at s i) ≡ true
-  pub inside : (e : Element) → decode_of (record_at s i) ≡ Good e → Inside l e
+  pub inside : (e : Element) → decode_of (record_at s i) ≡ Ok e → Inside l e
   pub own : (j : ℕ) → j < i → shares (record_at s j) (record_at s i) ≡ false
 
 -- ---- 6 and 7: a kind of the eleven decodes
@@ -37,9 +33,9 @@ pub record Right (s : List ℕ) (l : Limits) (i : ℕ) : Type 0 where
 -- it decodes
 record Known (d : Decoded) : Type 0 where
   element : Element
-  good : d ≡ Good element
+  good : d ≡ Ok element
 
-pick : (b : Bool) (k j : ℕ) (x : Element) (others : Decoded) → eqb k j ≡ b → j ≤ k → (suc j ≤ k → Known others) → Known (cond b (Good x) others)
+pick : (b : Bool) (k j : ℕ) (x : Element) (others : Decoded) → eqb k j ≡ b → j ≤ k → (suc j ≤ k → Known others) → Known (cond b (Ok x) others)
 pick true k j x others t l f = record { element = x; good = refl }
 pick false k j x others t l f = f (omega (arith, eqb-false k j t))
 
@@ -65,7 +61,7 @@ all : {A : Type 0} (t : A → Bool) (P : A → Type 0) → ((x : A) → P x → 
 all t P f [] h = refl
 all t P f (x ∷ xs) h = (both (t x) (every t xs)).1 (f x h.0, all t P f xs h.1)
 
-no_fault : (l : Limits) (e : Element) → Inside l e → element_fault l true e ≡ 0
+no_fault : (l : Limits) (e : Element) → Inside l e → element_fault l true e ≡ Ok tt
 unfolding element_fault nodes_fit sources_fit points_fit
 no_fault l e h =
     let n : nodes_fit l.nodes e ≡ true = all (node_below l.nodes) _ (λ p. lt-ltb _ _) (nodes_of e) h.nodes in
@@ -89,15 +85,15 @@ kinds (Vcvs p q cp cq k n) = (omega arith, omega arith)
 kinds (Vccs p q cp cq k) = (omega arith, omega arith)
 kinds (L a b v n) = (omega arith, omega arith)
 
-of_kind : {k : ℕ} {r : List ℕ} {d : Decoded} {e : Element} → Made k r d → d ≡ Good e → (resistor ≤ k) × (k ≤ inductor)
+of_kind : {k : ℕ} {r : List ℕ} {d : Decoded} {e : Element} → Made k r d → d ≡ Ok e → (resistor ≤ k) × (k ≤ inductor)
 of_kind (element x q n) g = rw q (kinds x)
 of_kind unknown g = absurd (let z : ◌≡◌ {A = ℕ} 0 1 = cc in omega arith)
 of_kind soiled g = absurd (let z : ◌≡◌ {A = ℕ} 0 1 = cc in omega arith)
 
-clean : (b : Bool) (d : Decoded) {e : Element} → if_zero b d ≡ Good e → b ≡ true
+clean : (b : Bool) (d : Decoded) {e : Element} → if_zero b d ≡ Ok e → b ≡ true
 clean true d g = refl
-clean false (Good x) g = absurd (let z : ◌≡◌ {A = ℕ} 0 1 = cc in omega arith)
-clean false (Refused k) g = absurd (let z : ◌≡◌ {A = ℕ} 0 1 = cc in omega arith)
+clean false (Ok x) g = absurd (let z : ◌≡◌ {A = ℕ} 0 1 = cc in omega arith)
+clean false (Err k) g = absurd (let z : ◌≡◌ {A = ℕ} 0 1 = cc in omega arith)
 
 -- ---- a record, and a sheet
 
@@ -109,7 +105,7 @@ module _ (s : List ℕ) (l : Limits) (i : ℕ) where
       let g = decodes k.element k.good in
       record { element = k.element; decodes = g; inside = h.inside k.element g; own = none_shares_lem s i (record_at s i) h.own }
     where
-      decodes : (e : Element) → element_of (kind_at s i) (record_at s i) ≡ Good e → decode_of (record_at s i) ≡ Good e
+      decodes : (e : Element) → element_of (kind_at s i) (record_at s i) ≡ Ok e → decode_of (record_at s i) ≡ Ok e
       decodes e q = rw (h.unused, q)
 
   -- and of what decodes none of 6 to 10 holds
@@ -125,10 +121,10 @@ module _ (s : List ℕ) (l : Limits) (i : ℕ) where
         own = each_apart s i (record_at s i) h.own;
       }
     where
-      same : (e : Element) → decode_of (record_at s i) ≡ Good e → h.element ≡ e
-      same e q = let t : Good h.element ≡ Good e = sym h.decodes ∙ q in cc
+      same : (e : Element) → decode_of (record_at s i) ≡ Ok e → h.element ≡ e
+      same e q = let t : Ok h.element ≡ Ok e = sym h.decodes ∙ q in cc
 
-      whole : if_zero (rest_zero (uses_of (kind_at s i)) (record_at s i)) (element_of (kind_at s i) (record_at s i)) ≡ Good h.element
+      whole : if_zero (rest_zero (uses_of (kind_at s i)) (record_at s i)) (element_of (kind_at s i) (record_at s i)) ≡ Ok h.element
       whole = h.decodes
 
   -- record i is sound: the check goes on
@@ -144,10 +140,10 @@ passes s l (suc n) m i h =
     rw (suc-add, e) (passed s l i _ (right_sound s l i (h i (omega arith) (omega arith))) ∙ passes s l n m (i + 1) (λ j p q. h j (omega arith) (omega arith)))
 
 -- a sheet all of whose records are right is clean
-pub all_right : (s : List ℕ) (l : Limits) → ((i : ℕ) → i < records_of s → Right s l i) → check_of s l ≡ Clean
+pub all_right : (s : List ℕ) (l : Limits) → ((i : ℕ) → i < records_of s → Right s l i) → check_of s l ≡ Ok tt
 unfolding check_from
 all_right s l h = rw add-zero at (passes s l (records_of s) 0 0 (λ j p q. h j (omega arith)))
 
 -- and the records of a clean sheet are right
-pub clean_right : (s : List ℕ) (l : Limits) (i : ℕ) → check_of s l ≡ Clean → i < records_of s → Right s l i
+pub clean_right : (s : List ℕ) (l : Limits) (i : ℕ) → check_of s l ≡ Ok tt → i < records_of s → Right s l i
 clean_right s l i h m = sound_right s l i (clean_at s l i h m)

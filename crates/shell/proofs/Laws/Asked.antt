@@ -1,7 +1,7 @@
 -- What all arguments together ask for: a fault is never forgotten, and a call without one names a file, one form at most, and nothing half. Clients cite is_descriptor, is_word, stays_wrong, all_append, unknown_anywhere, unknown_first, tsv_json, json_tsv, strict_anywhere, tsv_anywhere, json_anywhere, Whole, whole_call, files_alone, none_named, options_alone, fd_alone, spreads_last, spreads_option, fd_last and fd_file. Assumes nothing.
-use Rattle.std.specs.Prelude.{ℕ, zero, suc, ◌+◌, ◌<◌, ◌≤◌, ◌≡◌, refl, Bool, true, false, cond, not, ◌&&◌, ◌||◌, List, [], ◌∷◌, ◌++◌, ◌⊎◌, eqb, ltb, get_or}
+use Rattle.std.specs.Prelude.{ℕ, zero, suc, ◌+◌, ◌<◌, ◌≤◌, ◌≡◌, refl, Bool, true, false, cond, not, ◌&&◌, ◌||◌, List, [], ◌∷◌, ◌++◌, ◌⊎◌, eqb, get_or, min, Option, None, Some, IfSome}
 use Prim.Native.Char.{code}
-use Rattle.std.proofs.Common.{sym, ap, ◌∙◌, subst, inl, inr, ⊎_elim, arith, ne_eqb, ltb-false}
+use Rattle.std.proofs.Common.{sym, ap, ◌∙◌, subst, inl, inr, ⊎_elim, arith, ne_eqb}
 use Rattle.std.proofs.lemmas.Bool.{eqb-false}
 use Rattle.shell.specs.declared.word.Word.{Word}
 use Rattle.shell.specs.declared.word.Word.TheVariants.{Spreads, Strict, Tsv, Json, StatusFd, Unknown, File}
@@ -16,17 +16,17 @@ use Rattle.shell.specs.Laws.Each.{Each}
 -- ---- one argument
 
 -- An argument where a descriptor is wanted is taken as one.
-pub is_descriptor : (a : Asked) (w : Word) (digit : ℕ) → faulty a.fault ≡ false → a.descriptor ≡ true → after_of a w digit ≡ described_of a digit
+pub is_descriptor : (a : Asked) (w : Word) (digit : Option ℕ) → faulty a.fault ≡ false → a.descriptor ≡ true → after_of a w digit ≡ described_of a digit
 unfolding after_of
 is_descriptor a w digit e d = rw (e, d)
 
 -- Any other is taken by itself.
-pub is_word : (a : Asked) (w : Word) (digit : ℕ) → faulty a.fault ≡ false → a.descriptor ≡ false → after_of a w digit ≡ took_of a w
+pub is_word : (a : Asked) (w : Word) (digit : Option ℕ) → faulty a.fault ≡ false → a.descriptor ≡ false → after_of a w digit ≡ took_of a w
 unfolding after_of
 is_word a w digit e d = rw (e, d)
 
 -- After a fault no argument changes anything.
-after_wrong : (a : Asked) (w : Word) (digit : ℕ) → faulty a.fault ≡ true → after_of a w digit ≡ a
+after_wrong : (a : Asked) (w : Word) (digit : Option ℕ) → faulty a.fault ≡ true → after_of a w digit ≡ a
 unfolding after_of
 after_wrong a w digit e = rw e
 
@@ -46,9 +46,9 @@ all_append a (s ∷ ss) ts = all_append (after_of a (word_of s) (digit_of s)) ss
 told : (a : Asked) → faulty a.fault ≡ true → fault_of a ≡ a.fault
 told a e = rw e
 
-wrong_told : (a : Asked) (ss : List (List ℕ)) → faulty a.fault ≡ true → fault_of (all_asked a ss) ≡ Wrong.Nothing → ⊥
+wrong_told : (a : Asked) (ss : List (List ℕ)) → faulty a.fault ≡ true → fault_of (all_asked a ss) ≡ None → ⊥
 wrong_told a ss e h =
-    let f : a.fault ≡ Wrong.Nothing = sym (told a e) ∙ ap fault_of (sym (stays_wrong a ss e)) ∙ h in
+    let f : a.fault ≡ None = sym (told a e) ∙ ap fault_of (sym (stays_wrong a ss e)) ∙ h in
     let z : true ≡ false = sym e ∙ ap faulty f in
     let n : ◌≡◌ {A = ℕ} 0 1 = cc in
     omega arith
@@ -71,7 +71,7 @@ begins : (s : List ℕ) → word_of s ≡ Unknown → get_or s 0 0 ≡ code "-"
 begins s e = rw e at (what_it_is s)
 
 -- An option that there is not makes the call faulty wherever it stands, whatever stands before and behind it.
-pub unknown_anywhere : (before behind : List (List ℕ)) (s : List ℕ) → word_of s ≡ Unknown → fault_of (all_asked nothing_asked (before ++ s ∷ behind)) ≡ Wrong.Nothing → ⊥
+pub unknown_anywhere : (before behind : List (List ℕ)) (s : List ℕ) → word_of s ≡ Unknown → fault_of (all_asked nothing_asked (before ++ s ∷ behind)) ≡ None → ⊥
 unknown_anywhere before behind s e h =
     let a = all_asked nothing_asked before in
     wrong_told (after_of a (word_of s) (digit_of s)) behind
@@ -80,7 +80,7 @@ unknown_anywhere before behind s e h =
 
 -- Where nothing was wrong before it and no descriptor is wanted, it is told as an option that there is not.
 pub unknown_first : (before behind : List (List ℕ)) (s : List ℕ) → word_of s ≡ Unknown → faulty (all_asked nothing_asked before).fault ≡ false → (all_asked nothing_asked before).descriptor ≡ false
-    → fault_of (all_asked nothing_asked (before ++ s ∷ behind)) ≡ Wrong.Option
+    → fault_of (all_asked nothing_asked (before ++ s ∷ behind)) ≡ Some Wrong.Option
 unknown_first before behind s e f d =
     let a = all_asked nothing_asked before in
     ap fault_of (all_append nothing_asked before (s ∷ behind) ∙ ap (λ (b : Asked). all_asked b behind) (is_word a (word_of s) (digit_of s) f d ∙ ap (took_of a) e) ∙ stays_wrong (with_fault Wrong.Option a) behind refl)
@@ -110,7 +110,11 @@ module _ (P : Asked → Type 0)
   unfolding after_of
   after_keeps a s p =
       both_ways P (faulty a.fault) _ _ p
-      (both_ways P a.descriptor _ _ (both_ways P (eqb (digit_of s) 0) _ _ (fault a _ p) (given a s p)) (took_keeps a (word_of s) p))
+      (both_ways P a.descriptor _ _ (described (digit_of s) (given a s p)) (took_keeps a (word_of s) p))
+    where
+      described : (d : Option ℕ) → P (with_descriptor d false a) → P (described_of a d)
+      described None q = fault a _ p
+      described (Some d) q = q
 
   all_keeps : (a : Asked) (ss : List (List ℕ)) → P a → P (all_asked a ss)
   all_keeps a [] p = p
@@ -158,7 +162,7 @@ IsWrong a = faulty a.fault ≡ true
 -- two arguments that begin with a minus sign: after the first, wrong or in a form Q that stays; with Q the second is wrong; then the call is, whatever stands before, between and behind them
 clash : (Q : Asked → Type 0) (s t : List ℕ) → get_or s 0 0 ≡ code "-" → get_or t 0 0 ≡ code "-"
     → ((a : Asked) → IsWrong (took_of a (word_of s)) ⊎ Q (took_of a (word_of s))) → ((a : Asked) (ss : List (List ℕ)) → Q a → Q (all_asked a ss)) → ((a : Asked) → Q a → IsWrong (took_of a (word_of t)))
-    → (before between behind : List (List ℕ)) → fault_of (all_asked nothing_asked (before ++ s ∷ (between ++ t ∷ behind))) ≡ Wrong.Nothing → ⊥
+    → (before between behind : List (List ℕ)) → fault_of (all_asked nothing_asked (before ++ s ∷ (between ++ t ∷ behind))) ≡ None → ⊥
 clash Q s t hs ht first stays second before between behind h =
     let a = all_asked nothing_asked before in
     let b = after_of a (word_of s) (digit_of s) in
@@ -188,18 +192,18 @@ tsv_second : (t : List ℕ) → word_of t ≡ Tsv → (a : Asked) → InJson a �
 tsv_second t e a q = rw (e, q)
 
 -- `--tsv` and behind it `--json` make the call faulty, wherever they stand.
-pub tsv_json : (before between behind : List (List ℕ)) (s t : List ℕ) → word_of s ≡ Tsv → word_of t ≡ Json → fault_of (all_asked nothing_asked (before ++ s ∷ (between ++ t ∷ behind))) ≡ Wrong.Nothing → ⊥
+pub tsv_json : (before between behind : List (List ℕ)) (s t : List ℕ) → word_of s ≡ Tsv → word_of t ≡ Json → fault_of (all_asked nothing_asked (before ++ s ∷ (between ++ t ∷ behind))) ≡ None → ⊥
 tsv_json before between behind s t e f = clash InTsv s t (rw (minus s Tsv e)) (rw (minus t Json f)) (tsv_first s e) tsv_stays (json_second t f) before between behind
 
 -- And so do `--json` and behind it `--tsv`.
-pub json_tsv : (before between behind : List (List ℕ)) (s t : List ℕ) → word_of s ≡ Json → word_of t ≡ Tsv → fault_of (all_asked nothing_asked (before ++ s ∷ (between ++ t ∷ behind))) ≡ Wrong.Nothing → ⊥
+pub json_tsv : (before between behind : List (List ℕ)) (s t : List ℕ) → word_of s ≡ Json → word_of t ≡ Tsv → fault_of (all_asked nothing_asked (before ++ s ∷ (between ++ t ∷ behind))) ≡ None → ⊥
 json_tsv before between behind s t e f = clash InJson s t (rw (minus s Json e)) (rw (minus t Tsv f)) (json_first s e) json_stays (tsv_second t f) before between behind
 
 -- ---- options hold wherever they stand
 
 -- an option that makes the call wrong or asks for Q, which stays: a call that is not at fault asks for Q
 lasting : (Q : Asked → Type 0) (s : List ℕ) → get_or s 0 0 ≡ code "-" → ((a : Asked) → IsWrong (took_of a (word_of s)) ⊎ Q (took_of a (word_of s))) → ((a : Asked) (ss : List (List ℕ)) → Q a → Q (all_asked a ss))
-    → (before behind : List (List ℕ)) → fault_of (all_asked nothing_asked (before ++ s ∷ behind)) ≡ Wrong.Nothing → Q (all_asked nothing_asked (before ++ s ∷ behind))
+    → (before behind : List (List ℕ)) → fault_of (all_asked nothing_asked (before ++ s ∷ behind)) ≡ None → Q (all_asked nothing_asked (before ++ s ∷ behind))
 lasting Q s hs first stays before behind h =
     let a = all_asked nothing_asked before in
     let b = after_of a (word_of s) (digit_of s) in
@@ -217,22 +221,22 @@ strict_stays : (a : Asked) (ss : List (List ℕ)) → IsStrict a → IsStrict (a
 strict_stays a ss p = all_keeps IsStrict (λ b f q. q) (λ b q. refl) (λ b q. q) (λ b s q. q) (λ b n c q. q) (λ b c q. form_keeps IsStrict b c q (λ e. q)) a ss p
 
 -- `--strict` is never passed over: a call that is not at fault and has it anywhere is strict.
-pub strict_anywhere : (before behind : List (List ℕ)) (s : List ℕ) → word_of s ≡ Strict → fault_of (all_asked nothing_asked (before ++ s ∷ behind)) ≡ Wrong.Nothing → (all_asked nothing_asked (before ++ s ∷ behind)).strict ≡ true
+pub strict_anywhere : (before behind : List (List ℕ)) (s : List ℕ) → word_of s ≡ Strict → fault_of (all_asked nothing_asked (before ++ s ∷ behind)) ≡ None → (all_asked nothing_asked (before ++ s ∷ behind)).strict ≡ true
 strict_anywhere before behind s e = lasting IsStrict s (rw (minus s Strict e)) (λ a. rw e (inr refl)) strict_stays before behind
 
 -- And so it is with `--tsv`,
-pub tsv_anywhere : (before behind : List (List ℕ)) (s : List ℕ) → word_of s ≡ Tsv → fault_of (all_asked nothing_asked (before ++ s ∷ behind)) ≡ Wrong.Nothing → (all_asked nothing_asked (before ++ s ∷ behind)).tsv ≡ true
+pub tsv_anywhere : (before behind : List (List ℕ)) (s : List ℕ) → word_of s ≡ Tsv → fault_of (all_asked nothing_asked (before ++ s ∷ behind)) ≡ None → (all_asked nothing_asked (before ++ s ∷ behind)).tsv ≡ true
 tsv_anywhere before behind s e = lasting InTsv s (rw (minus s Tsv e)) (tsv_first s e) tsv_stays before behind
 
 -- and with `--json`.
-pub json_anywhere : (before behind : List (List ℕ)) (s : List ℕ) → word_of s ≡ Json → fault_of (all_asked nothing_asked (before ++ s ∷ behind)) ≡ Wrong.Nothing → (all_asked nothing_asked (before ++ s ∷ behind)).json ≡ true
+pub json_anywhere : (before behind : List (List ℕ)) (s : List ℕ) → word_of s ≡ Json → fault_of (all_asked nothing_asked (before ++ s ∷ behind)) ≡ None → (all_asked nothing_asked (before ++ s ∷ behind)).json ≡ true
 json_anywhere before behind s e = lasting InJson s (rw (minus s Json e)) (json_first s e) json_stays before behind
 
 -- ---- a call without a fault
 
 -- no descriptor, or one from 3 to 9
-abbrev Fit : ℕ → Type 0
-Fit d = (d ≡ 0) ⊎ ((3 ≤ d) × (d ≤ 9))
+abbrev Fit : Option ℕ → Type 0
+Fit fd = IfSome fd (λ d. (3 ≤ d) × (d ≤ 9))
 
 -- what a call asks for that is not at fault
 pub record Whole (a : Asked) : Type 0 where
@@ -244,8 +248,8 @@ pub record Whole (a : Asked) : Type 0 where
   -- one form at most
   pub «one_form» : (a.tsv && a.json) ≡ false
   -- the status goes nowhere, or to a descriptor from 3 to 9
-  pub fd : (a.fd ≡ 0) ⊎ ((3 ≤ a.fd) × (a.fd ≤ 9))
-  pub right : a.fault ≡ Wrong.Nothing
+  pub fd : IfSome a.fd (λ d. (3 ≤ d) × (d ≤ 9))
+  pub right : a.fault ≡ None
 
 abbrev OneForm : Asked → Type 0
 OneForm a = (a.tsv && a.json) ≡ false
@@ -254,18 +258,18 @@ abbrev FitFd : Asked → Type 0
 FitFd a = Fit a.fd
 
 fit_digit : (s : List ℕ) → Fit (digit_of s)
-fit_digit s = ⊎_elim (λ (e : digit_of s ≡ 0). inl e) (λ (n : Named s (digit_of s)). inr (n.least, n.most)) (what_it_names s)
+fit_digit s = go (digit_of s) (what_it_names s)
+  where
+    go : (d : Option ℕ) → IfSome d (Named s) → Fit d
+    go None h = tt
+    go (Some d) h = (h.least, h.most)
 
-no_fault : (f : Fault) → faulty f ≡ false → f ≡ Wrong.Nothing
-no_fault Wrong.Nothing e = refl
-no_fault Wrong.Option e = cc
-no_fault Wrong.Forms e = cc
-no_fault Wrong.Descriptor e = cc
-no_fault Wrong.Spreads e = cc
-no_fault Wrong.File e = cc
+no_fault : (f : Option Fault) → faulty f ≡ false → f ≡ None
+no_fault None e = refl
+no_fault (Some f) e = cc
 
 -- A call that is not at fault names at least one file, one form at most, and nothing half.
-pub whole_call : (ss : List (List ℕ)) → fault_of (all_asked nothing_asked ss) ≡ Wrong.Nothing → Whole (all_asked nothing_asked ss)
+pub whole_call : (ss : List (List ℕ)) → fault_of (all_asked nothing_asked ss) ≡ None → Whole (all_asked nothing_asked ss)
 whole_call ss h = go (faulty a.fault) a.descriptor a.spreads (eqb a.files 0) refl refl refl refl h
   where
     a : Asked
@@ -275,10 +279,10 @@ whole_call ss h = go (faulty a.fault) a.descriptor a.spreads (eqb a.files 0) ref
     forms = all_keeps OneForm (λ b f q. q) (λ b q. q) (λ b q. q) (λ b s q. q) (λ b n c q. q) (λ b c q. form_keeps OneForm b c q (λ e. e)) nothing_asked ss refl
 
     fit : FitFd (all_asked nothing_asked ss)
-    fit = all_keeps FitFd (λ b f q. q) (λ b q. q) (λ b q. q) (λ b s q. fit_digit s) (λ b n c q. q) (λ b c q. form_keeps FitFd b c q (λ e. q)) nothing_asked ss (inl refl)
+    fit = all_keeps FitFd (λ b f q. q) (λ b q. q) (λ b q. q) (λ b s q. fit_digit s) (λ b n c q. q) (λ b c q. form_keeps FitFd b c q (λ e. q)) nothing_asked ss tt
 
     go : (f d s n : Bool) → faulty (all_asked nothing_asked ss).fault ≡ f → (all_asked nothing_asked ss).descriptor ≡ d → (all_asked nothing_asked ss).spreads ≡ s → eqb (all_asked nothing_asked ss).files 0 ≡ n
-        → cond f (all_asked nothing_asked ss).fault (cond d Wrong.Descriptor (cond s Wrong.Spreads (cond n Wrong.File Wrong.Nothing))) ≡ Wrong.Nothing
+        → cond f (all_asked nothing_asked ss).fault (cond d (Some Wrong.Descriptor) (cond s (Some Wrong.Spreads) (cond n (Some Wrong.File) None))) ≡ None
         → Whole (all_asked nothing_asked ss)
     go true d s n p q r t k = let z : ◌≡◌ {A = ℕ} 0 1 = cc (sym p ∙ ap faulty k) in absurd (omega arith)
     go false true s n p q r t k = let z : ◌≡◌ {A = ℕ} 0 1 = cc in absurd (omega arith)
@@ -296,17 +300,13 @@ whole_call ss h = go (faulty a.fault) a.descriptor a.spreads (eqb a.files 0) ref
 
 -- nothing is wrong and nothing is half
 record Plain (a : Asked) : Type 0 where
-  right : a.fault ≡ Wrong.Nothing
+  right : a.fault ≡ None
   told : a.descriptor ≡ false
   closed : a.spreads ≡ false
 
 -- a file more is at least one
-named_some : (n : ℕ) → 0 < cond (ltb n 18446744073709551615) (n + 1) n
-named_some n = go (ltb n 18446744073709551615) refl
-  where
-    go : (b : Bool) → ltb n 18446744073709551615 ≡ b → 0 < cond b (n + 1) n
-    go true e = omega arith
-    go false e = omega (arith, ltb-false n 18446744073709551615 e)
+named_some : (n : ℕ) → 0 < min (n + 1) 18446744073709551615
+named_some n = omega arith
 
 plain_file : (a : Asked) (s : List ℕ) → word_of s ≡ File → Plain a → after_of a (word_of s) (digit_of s) ≡ named_of a
 plain_file a s e p = is_word a (word_of s) (digit_of s) (ap faulty p.right) p.told ∙ ap (took_of a) e
@@ -318,29 +318,29 @@ plain_all a (s ∷ ss) p h e =
     (plain_all (named_of a) ss (record { right = p.right; told = p.told; closed = refl }) (named_some a.files) e.1)
 
 -- Names of files alone, one or more, are never at fault.
-pub files_alone : (s : List ℕ) (ss : List (List ℕ)) → Each (λ (t : List ℕ). word_of t ≡ File) (s ∷ ss) → fault_of (all_asked nothing_asked (s ∷ ss)) ≡ Wrong.Nothing
+pub files_alone : (s : List ℕ) (ss : List (List ℕ)) → Each (λ (t : List ℕ). word_of t ≡ File) (s ∷ ss) → fault_of (all_asked nothing_asked (s ∷ ss)) ≡ None
 files_alone s ss e =
     let all = plain_all (named_of nothing_asked) ss (record { right = refl; told = refl; closed = refl }) (omega arith) e.1 in
     ap (λ (a : Asked). fault_of (all_asked a ss)) (plain_file nothing_asked s e.0 (record { right = refl; told = refl; closed = refl })) ∙ done (all_asked (named_of nothing_asked) ss) all.0 all.1
   where
-    done : (a : Asked) → Plain a → 0 < a.files → fault_of a ≡ Wrong.Nothing
+    done : (a : Asked) → Plain a → 0 < a.files → fault_of a ≡ None
     done a p h = rw (p.right, p.told, p.closed, ne_eqb a.files 0 (λ k. omega arith))
 
 -- ---- options alone
 
 -- no argument was wrong, and none was a file or a word that wants one
 record Bare (tsv : Bool) (a : Asked) : Type 0 where
-  right : a.fault ≡ Wrong.Nothing
+  right : a.fault ≡ None
   told : a.descriptor ≡ false
   closed : a.spreads ≡ false
   none : a.files ≡ 0
   other : cond tsv a.json a.tsv ≡ false
 
 -- No argument at all is told as no file.
-pub none_named : fault_of (all_asked nothing_asked []) ≡ Wrong.File
+pub none_named : fault_of (all_asked nothing_asked []) ≡ Some Wrong.File
 none_named = refl
 
-bare_file : (tsv : Bool) (a : Asked) → Bare tsv a → fault_of a ≡ Wrong.File
+bare_file : (tsv : Bool) (a : Asked) → Bare tsv a → fault_of a ≡ Some Wrong.File
 bare_file tsv a b = rw (b.right, b.told, b.closed, b.none)
 
 bare_strict : (tsv : Bool) (a : Asked) → Bare tsv a → Bare tsv (with_strict a)
@@ -351,7 +351,7 @@ bare_form true a b = rw b.other (record { right = b.right; told = b.told; closed
 bare_form false a b = rw b.other (record { right = b.right; told = b.told; closed = b.closed; none = b.none; other = refl })
 
 -- Options alone, `--strict` and one form as often as you like, are told as no file.
-pub options_alone : (tsv : Bool) (ss : List (List ℕ)) → Each (λ (s : List ℕ). (word_of s ≡ Strict) ⊎ (word_of s ≡ cond tsv Tsv Json)) ss → fault_of (all_asked nothing_asked ss) ≡ Wrong.File
+pub options_alone : (tsv : Bool) (ss : List (List ℕ)) → Each (λ (s : List ℕ). (word_of s ≡ Strict) ⊎ (word_of s ≡ cond tsv Tsv Json)) ss → fault_of (all_asked nothing_asked ss) ≡ Some Wrong.File
 options_alone tsv ss h = bare_file tsv (all_asked nothing_asked ss) (all nothing_asked ss start h)
   where
     start : Bare tsv nothing_asked
@@ -376,28 +376,28 @@ options_alone tsv ss h = bare_file tsv (all_asked nothing_asked ss) (all nothing
         (subst (Bare tsv) (sym (is_word a (word_of s) (digit_of s) (ap faulty b.right) b.told)) (step a s b k.0)) k.1
 
 -- `--status-fd 3` alone is told as no file too.
-pub fd_alone : fault_of (all_asked nothing_asked (bytes "--status-fd" ∷ bytes "3" ∷ [])) ≡ Wrong.File
+pub fd_alone : fault_of (all_asked nothing_asked (bytes "--status-fd" ∷ bytes "3" ∷ [])) ≡ Some Wrong.File
 unfolding word_of after_of
 fd_alone = refl
 
 -- ---- the other rows of the table of faults
 
 -- `spreads` as the last argument wants a file.
-pub spreads_last : fault_of (all_asked nothing_asked (bytes "front_end.jobs" ∷ bytes "spreads" ∷ [])) ≡ Wrong.Spreads
+pub spreads_last : fault_of (all_asked nothing_asked (bytes "front_end.jobs" ∷ bytes "spreads" ∷ [])) ≡ Some Wrong.Spreads
 unfolding word_of after_of
 spreads_last = refl
 
 -- An option between the word and its file changes nothing.
-pub spreads_option : fault_of (all_asked nothing_asked (bytes "spreads" ∷ bytes "--tsv" ∷ bytes "spreads.jobs" ∷ [])) ≡ Wrong.Nothing
+pub spreads_option : fault_of (all_asked nothing_asked (bytes "spreads" ∷ bytes "--tsv" ∷ bytes "spreads.jobs" ∷ [])) ≡ None
 unfolding word_of after_of
 spreads_option = refl
 
 -- `--status-fd` as the last argument wants a digit.
-pub fd_last : fault_of (all_asked nothing_asked (bytes "front_end.jobs" ∷ bytes "--status-fd" ∷ [])) ≡ Wrong.Descriptor
+pub fd_last : fault_of (all_asked nothing_asked (bytes "front_end.jobs" ∷ bytes "--status-fd" ∷ [])) ≡ Some Wrong.Descriptor
 unfolding word_of after_of
 fd_last = refl
 
 -- And so it does before a file.
-pub fd_file : fault_of (all_asked nothing_asked (bytes "--status-fd" ∷ bytes "front_end.jobs" ∷ [])) ≡ Wrong.Descriptor
+pub fd_file : fault_of (all_asked nothing_asked (bytes "--status-fd" ∷ bytes "front_end.jobs" ∷ [])) ≡ Some Wrong.Descriptor
 unfolding word_of after_of
 fd_file = refl

@@ -1,11 +1,14 @@
 -- The status, as a script's author relies on it: what each status means of all that was seen in a call, and what a run must be to count as sound. Clients cite status_range, in_turn, in_turn_lem, zero_no_fault, no_fault_zero, strict_zero, strict_zero_only, never_one, fault_anywhere, doubt_anywhere, Sound, job_sound, job_sound_only, job_strict, judged_sound, judged_sound_only and judged_strict. Assumes nothing.
-use Rattle.std.specs.Prelude.{ℕ, ◌≡◌, refl, Bool, true, false, cond, not, ◌&&◌, ◌||◌, List, [], ◌∷◌, ◌++◌, ◌⊎◌, eqb}
+use Rattle.std.specs.Prelude.{ℕ, ◌≡◌, refl, Bool, true, false, cond, not, ◌&&◌, ◌||◌, List, [], ◌∷◌, ◌++◌, ◌⊎◌, eqb, Result, Ok, Err}
 use Rattle.std.proofs.Common.{ap, ◌∙◌, inl, inr, arith, eqb-true}
 use Rattle.std.proofs.lemmas.Bool.{not-false}
-use Rattle.numbers.specs.Verdicts.{settled}
+use Rattle.numbers.specs.declared.verdict.Verdict.TheVariants.{Settled}
+use Rattle.numbers.specs.Verdicts.{settled, number_of}
+use Rattle.steps.specs.Laws.Verdicts.{one_verdict}
 use Rattle.engine.specs.declared.Ending.{Ending}
 use Rattle.engine.specs.declared.Outcome.{Outcome}
 use Rattle.engine.specs.declared.Outcome.TheVariants as Run
+use Rattle.numbers.specs.declared.refusal.Refusal.{Refusal}
 use Rattle.judge.specs.declared.Judged.{Judged}
 use Rattle.judge.specs.declared.Judged.TheVariants as Judge
 use Rattle.shell.specs.declared.seen.Seen.{Seen}
@@ -137,22 +140,22 @@ doubt_anywhere before behind s e f = rw (faults_none (before ++ s ∷ behind) f,
 pub record Sound (o : Outcome) : Type 0 where
   pub ending : Ending
   pub ended : o ≡ Run.Ended ending
-  pub verdict : ending.verdict ≡ settled
-  pub dc : ending.dc ≡ settled
+  pub verdict : ending.verdict ≡ Settled
+  pub dc : ending.dc ≡ Settled
   pub behind : ending.behind ≡ 0
 
 -- A run that ended with verdict 0 and DC verdict 0, with no diode behind, is sound,
-pub job_sound : (e : Ending) → e.verdict ≡ settled → e.dc ≡ settled → e.behind ≡ 0 → job_seen (Run.Ended e) ≡ sound_seen
+pub job_sound : (e : Ending) → e.verdict ≡ Settled → e.dc ≡ Settled → e.behind ≡ 0 → job_seen (Run.Ended e) ≡ sound_seen
 job_sound e p q r = rw (p, q, r)
 
 -- and no other is.
 pub job_sound_only : (o : Outcome) → job_seen o ≡ sound_seen → Sound o
 job_sound_only (Run.Refused k i) e = let d : true ≡ false = ap (λ (s : Seen). s.doubtful) e in let z : ◌≡◌ {A = ℕ} 0 1 = cc in absurd (omega arith)
 job_sound_only (Run.Ended r) e =
-    let a = not (eqb r.verdict settled) || not (eqb r.dc settled) in
+    let a = not (eqb (number_of r.verdict) settled) || not (eqb (number_of r.dc) settled) in
     let p = or_false a (not (eqb r.behind 0)) (ap (λ (s : Seen). s.doubtful) e) in
-    let q = or_false (not (eqb r.verdict settled)) (not (eqb r.dc settled)) p.0 in
-    record { ending = r; ended = refl; verdict = eqb-true _ _ (not-false _ q.0); dc = eqb-true _ _ (not-false _ q.1); behind = eqb-true _ _ (not-false _ p.1) }
+    let q = or_false (not (eqb (number_of r.verdict) settled)) (not (eqb (number_of r.dc) settled)) p.0 in
+    record { ending = r; ended = refl; verdict = one_verdict _ Settled (eqb-true _ _ (not-false _ q.0)); dc = one_verdict _ Settled (eqb-true _ _ (not-false _ q.1)); behind = eqb-true _ _ (not-false _ p.1) }
 
 -- With `--strict` status 0 means of each run in the call that it ended with verdict 0 and DC verdict 0, and that no diode is behind.
 pub job_strict : (before behind : List Seen) (o : Outcome) → status_of true (all_seen (before ++ job_seen o ∷ behind)) ≡ 0 → Sound o
@@ -161,15 +164,15 @@ job_strict before behind o e = job_sound_only o (each_here (λ (s : Seen). s ≡
 -- ---- what the judge says
 
 -- A judgement is sound where the judge accepts,
-pub judged_sound : judged_seen Judge.Accepted ≡ sound_seen
+pub judged_sound : judged_seen (Ok Judge.Accepted) ≡ sound_seen
 judged_sound = refl
 
 -- and nowhere else: neither where it rejects a row nor where it refuses to judge.
-pub judged_sound_only : (j : Judged) → judged_seen j ≡ sound_seen → j ≡ Judge.Accepted
-judged_sound_only Judge.Accepted e = refl
-judged_sound_only (Judge.Rejected i) e = let d : true ≡ false = ap (λ (s : Seen). s.doubtful) e in cc
-judged_sound_only (Judge.Refused k) e = let d : true ≡ false = ap (λ (s : Seen). s.doubtful) e in cc
+pub judged_sound_only : (j : Result Judged Refusal) → judged_seen j ≡ sound_seen → j ≡ Ok Judge.Accepted
+judged_sound_only (Ok Judge.Accepted) e = refl
+judged_sound_only (Ok (Judge.Rejected i)) e = let d : true ≡ false = ap (λ (s : Seen). s.doubtful) e in cc
+judged_sound_only (Err k) e = let d : true ≡ false = ap (λ (s : Seen). s.doubtful) e in cc
 
 -- With `--strict` status 0 means of each run that asked for the judge that it was accepted.
-pub judged_strict : (before behind : List Seen) (j : Judged) → status_of true (all_seen (before ++ judged_seen j ∷ behind)) ≡ 0 → j ≡ Judge.Accepted
+pub judged_strict : (before behind : List Seen) (j : Result Judged Refusal) → status_of true (all_seen (before ++ judged_seen j ∷ behind)) ≡ 0 → j ≡ Ok Judge.Accepted
 judged_strict before behind j e = judged_sound_only j (each_here (λ (s : Seen). s ≡ sound_seen) before behind (judged_seen j) (strict_zero (before ++ judged_seen j ∷ behind) e))

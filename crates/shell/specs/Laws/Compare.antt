@@ -1,7 +1,8 @@
 -- Two texts are compared from the front: what is left to compare after i equal bytes. Clients cite onward, different, same_end, same_short and same_is. Assumes nothing.
 use Rattle.std.specs.Prelude.{ℕ, suc, ◌+◌, ◌<◌, ◌≤◌, ◌≡◌, refl, Bool, true, false, ◌&&◌, List, [], ◌∷◌, length, get_or, drop, eqb}
-use Rattle.std.proofs.Common.{ap, sym, ◌∙◌, add-one, drop_of_length-le, drop-cons, eq-eqb, ne_eqb, eqb-true}
+use Rattle.std.proofs.Common.{ap, sym, ◌∙◌, add-one, drop_of_length-le, drop-cons, eq-eqb, ne_eqb}
 use Rattle.std.proofs.Math.Bool.{and-false}
+use Rattle.std.proofs.lemmas.Slice.Eq.{bytes_eq-Decides}
 use Rattle.shell.specs.Words.{same_bytes}
 
 -- the bytes at i decide, or what is behind them
@@ -29,11 +30,4 @@ same_short (x ∷ xs) (y ∷ ys) h = rw (same_short xs ys (λ e. h (ap suc e))) 
 
 -- texts that are the same byte for byte are one text
 pub same_is : (s t : List ℕ) → same_bytes s t ≡ true → s ≡ t
-same_is [] [] e = refl
-same_is [] (y ∷ ys) e = cc
-same_is (x ∷ xs) [] e = cc
-same_is (x ∷ xs) (y ∷ ys) e = both (eqb x y) refl e (λ k. same_is xs ys k)
-  where
-    both : (b : Bool) → eqb x y ≡ b → (b && same_bytes xs ys) ≡ true → (same_bytes xs ys ≡ true → xs ≡ ys) → x ∷ xs ≡ y ∷ ys
-    both true h k more = rw (eqb-true x y h, more k)
-    both false h k more = cc
+same_is s t = (bytes_eq-Decides s t).0

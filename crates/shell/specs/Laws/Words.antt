@@ -1,7 +1,7 @@
 -- What an argument is taken for: each option by its whole name, and nothing else. Clients cite word_spreads, word_strict, word_tsv, word_json, word_status_fd, word_tvs, word_file, Is, what_it_is, minus_no_file, digit_three, digit_nine, digit_two, digit_twelve, digit_letter, digit_empty, Named, what_it_names and no_digit. Assumes nothing.
-use Rattle.std.specs.Prelude.{ℕ, ◌+◌, ◌-◌, ◌≤◌, ◌≡◌, refl, Bool, true, false, cond, not, List, [], ◌⊎◌, eqb, ltb, get_or, length}
+use Rattle.std.specs.Prelude.{ℕ, ◌+◌, ◌-◌, ◌≤◌, ◌≡◌, refl, Bool, true, false, cond, not, List, [], eqb, ltb, get_or, length, Option, None, Some, IfSome}
 use Prim.Native.Char.{code}
-use Rattle.std.proofs.Common.{inl, inr, arith, eqb-true, ltb-false}
+use Rattle.std.proofs.Common.{arith, eqb-true, ltb-false}
 use Rattle.std.proofs.lemmas.Bool.{eqb-false, not-false}
 use Rattle.shell.specs.declared.word.Word.{Word}
 use Rattle.shell.specs.declared.word.Word.TheVariants.{Spreads, Strict, Tsv, Json, StatusFd, Unknown, File}
@@ -82,27 +82,27 @@ minus_no_file s h e = (rw e at (what_it_is s)) h
 -- ---- a descriptor
 
 -- `3` names descriptor 3, as the wrapper hands it.
-pub digit_three : digit_of (bytes "3") ≡ 3
+pub digit_three : digit_of (bytes "3") ≡ Some 3
 digit_three = refl
 
 -- `9` names descriptor 9, the last.
-pub digit_nine : digit_of (bytes "9") ≡ 9
+pub digit_nine : digit_of (bytes "9") ≡ Some 9
 digit_nine = refl
 
 -- `2`, standard error itself, names none.
-pub digit_two : digit_of (bytes "2") ≡ 0
+pub digit_two : digit_of (bytes "2") ≡ None
 digit_two = refl
 
 -- `12` names none.
-pub digit_twelve : digit_of (bytes "12") ≡ 0
+pub digit_twelve : digit_of (bytes "12") ≡ None
 digit_twelve = refl
 
 -- `x` names none.
-pub digit_letter : digit_of (bytes "x") ≡ 0
+pub digit_letter : digit_of (bytes "x") ≡ None
 digit_letter = refl
 
 -- The empty text names none.
-pub digit_empty : digit_of [] ≡ 0
+pub digit_empty : digit_of [] ≡ None
 digit_empty = refl
 
 -- a text of one byte, the digit d, which is 3 to 9
@@ -113,23 +113,23 @@ pub record Named (s : List ℕ) (d : ℕ) : Type 0 where
   pub most : d ≤ 9
 
 -- A text names no descriptor, or it is one digit and that digit is 3 to 9: standard input, output and error are never written to.
-pub what_it_names : (s : List ℕ) → (digit_of s ≡ 0) ⊎ Named s (digit_of s)
+pub what_it_names : (s : List ℕ) → IfSome (digit_of s) (Named s)
 what_it_names s = go (not (eqb (length s) 1)) (ltb (get_or s 0 0) (code "3")) (ltb (code "9") (get_or s 0 0)) refl refl refl
   where
     go : (a b c : Bool) → not (eqb (length s) 1) ≡ a → ltb (get_or s 0 0) (code "3") ≡ b → ltb (code "9") (get_or s 0 0) ≡ c
-        → (cond a 0 (cond b 0 (cond c 0 (get_or s 0 0 - code "0"))) ≡ 0) ⊎ Named s (cond a 0 (cond b 0 (cond c 0 (get_or s 0 0 - code "0"))))
-    go true b c p q r = inl refl
-    go false true c p q r = inl refl
-    go false false true p q r = inl refl
+        → IfSome (cond a None (cond b None (cond c None (Some (get_or s 0 0 - code "0"))))) (Named s)
+    go true b c p q r = tt
+    go false true c p q r = tt
+    go false false true p q r = tt
     go false false false p q r =
         let h : code "3" ≤ get_or s 0 0 = ltb-false _ _ q in
         let k : get_or s 0 0 ≤ code "9" = ltb-false _ _ r in
-        inr (record { one = eqb-true _ _ (not-false _ p); byte = omega arith; least = omega arith; most = omega arith })
+        record { one = eqb-true _ _ (not-false _ p); byte = omega arith; least = omega arith; most = omega arith }
 
 -- A text that begins with a minus sign names none.
-pub no_digit : (s : List ℕ) → get_or s 0 0 ≡ code "-" → digit_of s ≡ 0
+pub no_digit : (s : List ℕ) → get_or s 0 0 ≡ code "-" → digit_of s ≡ None
 no_digit s e = go (not (eqb (length s) 1))
   where
-    go : (a : Bool) → cond a 0 (cond (ltb (get_or s 0 0) (code "3")) 0 (cond (ltb (code "9") (get_or s 0 0)) 0 (get_or s 0 0 - code "0"))) ≡ 0
+    go : (a : Bool) → cond a None (cond (ltb (get_or s 0 0) (code "3")) None (cond (ltb (code "9") (get_or s 0 0)) None (Some (get_or s 0 0 - code "0")))) ≡ None
     go true = refl
     go false = rw e

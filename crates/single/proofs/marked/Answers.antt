@@ -9,4 +9,4 @@ returns-in-Refused c = ap mark_of (sym c.in-Refused.is)
 
 pub returns-in-Ended : goal.returns-in-Ended
 unfolding mark_of
-returns-in-Ended c = ap mark_of (sym c.in-Ended.is)
+returns-in-Ended c = rw c.number.ensures (ap mark_of (sym c.in-Ended.is))

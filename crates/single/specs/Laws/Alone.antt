@@ -5,12 +5,15 @@ use Rattle.std.proofs.Common.{◌∙◌}
 use Rattle.std.proofs.Math.ListN.{length, length-replicate}
 use Rattle.num.specs.Floats.{nought}
 use Rattle.loops.specs.Loop.{zeros_like}
+use Rattle.numbers.specs.Refusals as Refusals
+use Rattle.sheet.specs.declared.Fault.{Fault}
 use Rattle.options.specs.declared.Options.{Options}
 use Rattle.sheet.specs.Record.{record_bytes}
-use Rattle.sheet.specs.declared.Checked.{Checked}
-use Rattle.sheet.specs.declared.Checked.TheVariants.{Clean, Faulty}
+use Rattle.sheet.specs.Check.{Checked}
+use Rattle.std.specs.declared.result.Result.TheVariants.{Ok, Err}
 use Rattle.checks.specs.declared.Sizes.{Sizes}
 use Rattle.checks.specs.Checks.{order, cells, checked_of}
+use Rattle.numbers.specs.Verdicts as verdicts
 use Rattle.steps.specs.Counters.{verdict_of}
 use Rattle.machine.specs.State.{Buffers, State}
 use Rattle.engine.specs.Work.{zeros, behind_in}
@@ -36,8 +39,8 @@ any_scratch o nodes sources sheet points b b₁ s e e₁ v y h k = rw (h, k) (go
     go : (x : Checked)
         → single_in (unless x (result_of (last_ending c) (laid (sizes c) (last_of c).buffers c.lent)) (result_of (refused_of x) c.lent))
         ≡ single_in (unless x (result_of (last_ending d) (laid (sizes c) (last_of d).buffers d.lent)) (result_of (refused_of x) d.lent))
-    go Clean = refl
-    go (Faulty k i) = refl
+    go (Ok u) = refl
+    go (Err f) = refl
 
 -- ---- a call on zeros
 
@@ -56,28 +59,28 @@ module _ (c : Call) where
   -- a job that runs, and one that is refused
   abbrev pub ran_single : Single
   ran_single =
-      single_of (mark_as (verdict_of last.counters) 0 last.counters.passes (behind_in c.job.options c.sheet last.buffers)) (last.buffers.vector ++ drop (order (sizes c)) (zeros_like c.lent.vector))
+      single_of (mark_as (verdicts.number_of (verdict_of last.counters)) 0 last.counters.passes (behind_in c.job.options c.sheet last.buffers)) (last.buffers.vector ++ drop (order (sizes c)) (zeros_like c.lent.vector))
       (last.buffers.system ++ drop (cells (sizes c)) (zeros_like c.lent.system))
 
   abbrev pub refused_single : ℕ → ℕ → Single
   refused_single k i = single_of (mark_as k i 0 0) (zeros_like c.lent.vector) (zeros_like c.lent.system)
 
   -- what holds of both holds of every job
-  pub by_check : (P : Single → Type 0) → (checked_call c ≡ Clean → P ran_single) → ((k i : ℕ) → checked_call c ≡ Faulty k i → P (refused_single k i)) → P (alone c)
+  pub by_check : (P : Single → Type 0) → (checked_call c ≡ Ok tt → P ran_single) → ((f : Fault) → checked_call c ≡ Err f → P (refused_single (Refusals.number_of f.refusal) f.place)) → P (alone c)
   unfolding alone mark_of ending_of refused_of
-  by_check P f g = run_by_check (fresh c) (λ (x : Result). P (single_in x)) (λ e. f (sym fresh_check ∙ e)) (λ k i e. g k i (sym fresh_check ∙ e))
+  by_check P f g = run_by_check (fresh c) (λ (x : Result). P (single_in x)) (λ e. f (sym fresh_check ∙ e)) (λ h e. g h (sym fresh_check ∙ e))
 
-  pub alone_ran : checked_call c ≡ Clean → alone c ≡ ran_single
+  pub alone_ran : checked_call c ≡ Ok tt → alone c ≡ ran_single
   unfolding alone run_of mark_of ending_of
   alone_ran e =
-      let f : checked_call (fresh c) ≡ Clean = fresh_check ∙ e in
+      let f : checked_call (fresh c) ≡ Ok tt = fresh_check ∙ e in
       rw f
 
-  pub alone_refused : (k i : ℕ) → checked_call c ≡ Faulty k i → alone c ≡ refused_single k i
+  pub alone_refused : (f : Fault) → checked_call c ≡ Err f → alone c ≡ refused_single (Refusals.number_of f.refusal) f.place
   unfolding alone run_of mark_of refused_of
-  alone_refused k i e =
-      let f : checked_call (fresh c) ≡ Faulty k i = fresh_check ∙ e in
-      rw f
+  alone_refused f e =
+      let h : checked_call (fresh c) ≡ Err f = fresh_check ∙ e in
+      rw h
 
 -- ---- a DC call
 

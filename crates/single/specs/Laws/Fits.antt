@@ -17,7 +17,7 @@ use Rattle.groups.specs.Stamping.{stamp_of}
 use Rattle.checks.specs.Checks.{order, records}
 use Rattle.steps.specs.declared.Counters.{Counters}
 use Rattle.steps.specs.declared.Job.{Job}
-use Rattle.steps.specs.Phases.{dc_phase, transient_phase}
+use Rattle.steps.specs.Phases.{is_dc, is_transient}
 use Rattle.machine.specs.State.{Buffers, State, Solved}
 use Rattle.machine.specs.Machine.{compared, tried, took, tried_by, accepts, dc_pass, step_pass, pass, run_for}
 use Rattle.passes.specs.Attempt.{Circuit, pass_of, attempt_of}
@@ -95,7 +95,7 @@ module _ (k : Circuit) (j : Job) where
 
   pass_fits : (s : State) → AllFit s.buffers.vector → AllFit (pass (attempt_of k) j s).buffers.vector
   unfolding pass dc_pass step_pass
-  pass_fits s p = go (eqb s.counters.phase dc_phase) (eqb s.counters.phase transient_phase)
+  pass_fits s p = go (is_dc s.counters.phase) (is_transient s.counters.phase)
     where
       either : (b : Bool) (x y : State) → AllFit x.buffers.vector → AllFit y.buffers.vector → AllFit (cond b x y).buffers.vector
       either true x y p q = p
@@ -125,4 +125,4 @@ single_fits o nodes sources sheet points =
     let v = c.lent.vector in
     by_check c (λ (x : Single). AllFit x.vector)
     (λ q. append_fits (last c).buffers.vector (drop (order (sizes c)) (zeros_like v)) (last_fits (fresh c)) (drop_fits (order (sizes c)) (zeros_like v) (zeros_fit (length v))))
-    (λ k i q. zeros_fit (length v))
+    (λ f q. zeros_fit (length v))

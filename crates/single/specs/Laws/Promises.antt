@@ -10,16 +10,21 @@ use Rattle.std.specs.Float.Ieee.Scale.{finite}
 use Rattle.num.specs.Floats.{nought}
 use Rattle.numbers.specs.Limits.{job_numbers}
 use Rattle.numbers.specs.Refusals.{by_order, by_kind, by_pattern}
-use Rattle.numbers.specs.Verdicts.{settled, passes_used, diverged, diode_current, budget_spent}
+use Rattle.numbers.specs.declared.verdict.Verdict.{Verdict}
+use Rattle.numbers.specs.declared.verdict.Verdict.TheVariants.{BudgetSpent}
+use Rattle.numbers.specs.Verdicts.{settled, passes_used, diverged, diode_current, budget_spent, number_of}
 use Rattle.options.specs.declared.Options.{Options}
 use Rattle.sheet.specs.Record.{record_bytes}
-use Rattle.sheet.specs.declared.Checked.TheVariants.{Faulty}
+use Rattle.std.specs.declared.result.Result.TheVariants.{Ok, Err}
 use Rattle.sheet.specs.Check.{place_of, check_of, bad_sheet, bad_points}
+use Rattle.numbers.specs.Refusals as Refusals
+use Rattle.sheet.specs.declared.Fault.{Fault}
 use Rattle.sheet.specs.Laws.Clean.{First, faulty_at}
 use Rattle.checks.specs.declared.Sizes.{Sizes}
 use Rattle.checks.specs.Checks.{order, cells, limits_of, bad_order, bad_counts, bad_room, sizes_refusal, checked_of}
-use Rattle.checks.specs.Laws.Checks.{cond_none}
+use Rattle.checks.specs.Laws.Checks.{cond_none, sizes_none}
 use Rattle.steps.specs.Counters.{verdict_of}
+use Rattle.steps.specs.Laws.Verdicts.{one_verdict}
 use Rattle.machine.proofs.Laws.NoSine.{DcVerdict, «dc-settled», «dc-passes-used», «dc-diverged», «dc-diode», «dc-spent»}
 use Rattle.engine.specs.Work.{zeros}
 use Rattle.engine.specs.Engine.{Call, sizes, checked_call}
@@ -54,20 +59,20 @@ few k «has-diverged» = omega arith
 few k «not-Finite» = omega arith
 few k «spent-budget» = omega arith
 
-told : (k : ℕ) → DcVerdict k → Numbered k
-told k «dc-settled» = «has-settled»
-told k «dc-passes-used» = «used-passes»
-told k «dc-diverged» = «has-diverged»
-told k «dc-diode» = «not-Finite»
-told k «dc-spent» = «spent-budget»
+told : (v : Verdict) → DcVerdict v → Numbered (number_of v)
+told v «dc-settled» = «has-settled»
+told v «dc-passes-used» = «used-passes»
+told v «dc-diverged» = «has-diverged»
+told v «dc-diode» = «not-Finite»
+told v «dc-spent» = «spent-budget»
 
 -- no verdict is a refusal
-apart : (k : ℕ) → DcVerdict k → by_order ≤ k → k ≤ by_pattern → ⊥
-apart k «dc-settled» l h = omega arith
-apart k «dc-passes-used» l h = omega arith
-apart k «dc-diverged» l h = omega arith
-apart k «dc-diode» l h = omega arith
-apart k «dc-spent» l h = omega arith
+apart : (v : Verdict) → DcVerdict v → by_order ≤ number_of v → number_of v ≤ by_pattern → ⊥
+apart v «dc-settled» l h = omega arith
+apart v «dc-passes-used» l h = omega arith
+apart v «dc-diverged» l h = omega arith
+apart v «dc-diode» l h = omega arith
+apart v «dc-spent» l h = omega arith
 
 -- ---- buffers of the least lengths
 
@@ -90,7 +95,7 @@ none_refused o z e =
 -- past 1 to 5 the check is the sheet's
 pub check_only : (o : Options) (z : Sizes) (sheet : List ℕ) → sizes_refusal o z ≡ 0 → checked_of o z sheet ≡ check_of sheet (limits_of z)
 unfolding checked_of
-check_only o z sheet e = rw e
+check_only o z sheet e = rw (sizes_none o z e)
 
 -- ---- a job on any sizes
 
@@ -109,35 +114,35 @@ module _ (c : Call) (dc : c.job.transient ≡ false) where
   verdict = dc_run_verdict (fresh c) dc
 
   -- a refusal past 1 to 5 is of the sheet
-  of_sheet : sizes_refusal c.job.options (sizes c) ≡ 0 → (k i : ℕ) → checked_call c ≡ Faulty k i → First c.sheet (limits_of (sizes c)) k i
-  of_sheet e k i q = faulty_at c.sheet (limits_of (sizes c)) k i (sym (check_only c.job.options (sizes c) c.sheet e) ∙ q)
+  of_sheet : sizes_refusal c.job.options (sizes c) ≡ 0 → (f : Fault) → checked_call c ≡ Err f → First c.sheet (limits_of (sizes c)) (Refusals.number_of f.refusal) f.place
+  of_sheet e f q = faulty_at c.sheet (limits_of (sizes c)) f (sym (check_only c.job.options (sizes c) c.sheet e) ∙ q)
 
   alone_number : sizes_refusal c.job.options (sizes c) ≡ 0 → Numbered (alone c).mark.number
   alone_number e =
-      by_check c (λ (x : Single). Numbered x.mark.number) (λ q. told _ verdict) (λ k i q. let f = of_sheet e k i q in refused f.least f.most)
+      by_check c (λ (x : Single). Numbered x.mark.number) (λ q. told _ verdict) (λ h q. let f = of_sheet e h q in refused f.least f.most)
 
   -- with 24 the budget is spent
   alone_spent : sizes_refusal c.job.options (sizes c) ≡ 0 → (alone c).mark.number ≡ budget_spent → (alone c).mark.passes ≡ c.job.options.budget
   alone_spent e =
-      by_check c (λ (x : Single). x.mark.number ≡ budget_spent → x.mark.passes ≡ c.job.options.budget) (λ q g. budget_spent_lem (fresh c) (fresh_check c ∙ q) g)
-      (λ k i q g. absurd (omega (arith, (of_sheet e k i q).most)))
+      by_check c (λ (x : Single). x.mark.number ≡ budget_spent → x.mark.passes ≡ c.job.options.budget) (λ q g. budget_spent_lem (fresh c) (fresh_check c ∙ q) (one_verdict _ BudgetSpent g))
+      (λ h q g. absurd (omega (arith, (of_sheet e h q).most)))
 
   -- no place but a refused record's
   alone_unplaced : sizes_refusal c.job.options (sizes c) ≡ 0 → (OfSheet (alone c).mark.number → ⊥) → (alone c).mark.place ≡ 0
   alone_unplaced e =
       by_check c (λ (x : Single). (OfSheet x.mark.number → ⊥) → x.mark.place ≡ 0) (λ q g. refl)
-      (λ k i q g. let f = of_sheet e k i q in absurd (g (f.least, f.most)))
+      (λ h q g. let f = of_sheet e h q in absurd (g (f.least, f.most)))
 
   alone_blank : length c.lent.vector ≡ order (sizes c) → length c.lent.system ≡ cells (sizes c) → by_order ≤ (alone c).mark.number → (alone c).mark.number ≤ by_pattern → Blank (order (sizes c)) (alone c)
   alone_blank hv hs =
       by_check c (λ (x : Single). by_order ≤ x.mark.number → x.mark.number ≤ by_pattern → Blank (order (sizes c)) x) (λ q l h. absurd (apart _ verdict l h))
-      (λ k i q l h. record { passes = refl; vector = rw hv; system = rw hs })
+      (λ f q l h. record { passes = refl; vector = rw hv; system = rw hs })
 
 alone_passes : (c : Call) → (alone c).mark.passes ≤ c.job.options.budget
-alone_passes c = by_check c (λ (x : Single). x.mark.passes ≤ c.job.options.budget) (λ q. within_budget (fresh c) (fresh_check c ∙ q)) (λ k i q. omega arith)
+alone_passes c = by_check c (λ (x : Single). x.mark.passes ≤ c.job.options.budget) (λ q. within_budget (fresh c) (fresh_check c ∙ q)) (λ f q. omega arith)
 
 alone_place : (c : Call) → (alone c).mark.place ≡ place_of (checked_call c)
-alone_place c = by_check c (λ (x : Single). x.mark.place ≡ place_of (checked_call c)) (λ q. rw q) (λ k i q. rw q)
+alone_place c = by_check c (λ (x : Single). x.mark.place ≡ place_of (checked_call c)) (λ q. rw q) (λ f q. rw q)
 
 -- ---- a job by itself
 
@@ -163,7 +168,7 @@ module _ (o : Options) (nodes sources : ℕ) (sheet points : List ℕ) where
   single-length =
       by_check c (λ (x : Single). length x.vector ≡ order z)
       (λ q. rw (length-replicate (order z) nought) (filled (last c).buffers.vector (order z) (last_held (fresh c)).vector))
-      (λ k i q. length-replicate (length (zeros (order z))) nought ∙ length-replicate (order z) nought)
+      (λ f q. length-replicate (length (zeros (order z))) nought ∙ length-replicate (order z) nought)
 
   -- and its system N rows of N + 1
   pub system_length : length (single o nodes sources sheet points).system ≡ (nodes + sources) * (nodes + sources + 1)
@@ -171,7 +176,7 @@ module _ (o : Options) (nodes sources : ℕ) (sheet points : List ℕ) where
   system_length =
       by_check c (λ (x : Single). length x.system ≡ cells z)
       (λ q. rw (length-replicate (cells z) nought) (filled (last c).buffers.system (cells z) (last_held (fresh c)).system))
-      (λ k i q. length-replicate (length (zeros (cells z))) nought ∙ length-replicate (cells z) nought)
+      (λ f q. length-replicate (length (zeros (cells z))) nought ∙ length-replicate (cells z) nought)
 
   -- a settled job's unknowns are finite
   pub single_finite : (u : ℕ) → u < nodes + sources → (single o nodes sources sheet points).mark.number ≡ settled → T (finite (get_or (single o nodes sources sheet points).vector u nan))
@@ -198,10 +203,10 @@ module _ (o : Options) (nodes sources : ℕ) (sheet points : List ℕ) where
   unfolding single
   single_spent e = alone_spent c refl (ap (sizes_refusal o) (job_sizes_lem o nodes sources sheet points) ∙ e)
 
-  -- a job that is refused by k at the record i
-  pub single_refused : (k i : ℕ) → checked_of o z sheet ≡ Faulty k i → single o nodes sources sheet points ≡ single_of (mark_as k i 0 0) (replicate (nodes + sources) nought) (replicate ((nodes + sources) * (nodes + sources + 1)) nought)
+  -- a job that is refused: the mark is the refusal's number and its place
+  pub single_refused : (f : Fault) → checked_of o z sheet ≡ Err f → single o nodes sources sheet points ≡ single_of (mark_as (Refusals.number_of f.refusal) f.place 0 0) (replicate (nodes + sources) nought) (replicate ((nodes + sources) * (nodes + sources + 1)) nought)
   unfolding single
-  single_refused k i e = rw (length-replicate (order z) nought, length-replicate (cells z) nought) at (alone_refused c k i (job_check ∙ e))
+  single_refused f e = rw (length-replicate (order z) nought, length-replicate (cells z) nought) at (alone_refused c f (job_check ∙ e))
 
   -- and whatever has a refusal's number was refused
   pub refused_blank : by_order ≤ (single o nodes sources sheet points).mark.number → (single o nodes sources sheet points).mark.number ≤ by_pattern → Blank (nodes + sources) (single o nodes sources sheet points)

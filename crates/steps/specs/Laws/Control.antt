@@ -10,7 +10,8 @@ use Rattle.options.specs.declared.Options.{Options}
 use Rattle.steps.specs.declared.Counters.{Counters}
 use Rattle.steps.specs.declared.Report.{Report}
 use Rattle.steps.specs.declared.Report.TheVariants.{Yes, No, Error, Diode, Sine}
-use Rattle.numbers.specs.Verdicts.{settled, passes_used, diverged, diode_current, step_too_small, no_room, sine_refused}
+use Rattle.numbers.specs.declared.verdict.Verdict.{Verdict}
+use Rattle.numbers.specs.declared.verdict.Verdict.TheVariants.{Settled, PassesUsed, Diverged, DiodeCurrent, StepTooSmall, NoRoom, SineRefused}
 use Rattle.steps.specs.Counters.{top, next, counted, ended, with_dc, begun, anew, again, with_step, with_time, written}
 use Rattle.steps.specs.Control.{solved, dc_over, dc_after, moved, eased, shortened, step_after}
 
@@ -37,23 +38,23 @@ module _ (n : ℕ) where
 -- ---- how a run may end
 
 -- after a pass that was solved: a DC run (false), and a transient (true)
-pub data Ends : Bool → ℕ → Type 0 where
-  settles : {t : Bool} → Ends t settled
-  «runs-out» : Ends false passes_used
-  diverges : {t : Bool} → Ends t diverged
-  shrinks : Ends true step_too_small
-  fills : Ends true no_room
+pub data Ends : Bool → Verdict → Type 0 where
+  settles : {t : Bool} → Ends t Settled
+  «runs-out» : Ends false PassesUsed
+  diverges : {t : Bool} → Ends t Diverged
+  shrinks : Ends true StepTooSmall
+  fills : Ends true NoRoom
 
 -- in a pass that was not solved
-pub data Fails : ℕ → Type 0 where
-  «at-diode» : Fails diode_current
-  «at-sine» : Fails sine_refused
+pub data Fails : Verdict → Type 0 where
+  «at-diode» : Fails DiodeCurrent
+  «at-sine» : Fails SineRefused
 
 -- ---- what no small change breaks
 
 pub record Closed (transient : Bool) (P : Counters → Type 0) : Type 0 where
-  pub ends : {v : ℕ} (c : Counters) → Ends transient v → P c → P (ended v c)
-  pub dcs : {v : ℕ} (c : Counters) → Ends false v → P c → P (with_dc v c)
+  pub ends : {v : Verdict} (c : Counters) → Ends transient v → P c → P (ended v c)
+  pub dcs : {v : Verdict} (c : Counters) → Ends false v → P c → P (with_dc v c)
   pub begins : (d : Float) (c : Counters) → transient ≡ true → P c → P (begun d c)
   pub news : (c : Counters) → P c → P (anew c)
   pub agains : (c : Counters) → P c → P (again c)
@@ -66,7 +67,7 @@ module _ (P : Counters → Type 0) (o : Options) where
   either true x y p q = p
   either false x y p q = q
 
-  over : (tr : Bool) → Closed tr P → {v : ℕ} (c : Counters) → Ends false v → P c → P (dc_over o tr v c)
+  over : (tr : Bool) → Closed tr P → {v : Verdict} (c : Counters) → Ends false v → P c → P (dc_over o tr v c)
   unfolding dc_over
   over true k c e p = k.news _ (k.begins _ _ refl (k.dcs c e p))
   over false k c e p = k.ends _ e (k.dcs c e p)

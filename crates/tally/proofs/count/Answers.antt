@@ -1,27 +1,22 @@
 -- `tally::count` meets its contract.
-use Prim.Native.Nat.{ℕ}
-use mathlib.Core.Path.{◌≡◌, refl, ap, ◌∙◌}
-use native.Mathlib.Omega.{arith}
+use Rattle.std.proofs.Common.{◌≡◌, ◌+◌, ℕ, zero, suc, ◌≤◌, Bool, true, false, eqb, cond, List, length, get_or, take, count_by, refl, sym, ◌∙◌, ap, add-one, arith, rules}
+use Rattle.std.proofs.lemmas.List.Sums.{count_by_more_yes, count_by_more_no}
 use Rattle.tally.specs.Tally.{number_in, how_many}
-use Rattle.tally.specs.Laws.Tally.{many_most, many_more}
-use borrow.Author.Rules.{rules}
 use Rattle.tally.proofs.count.Goals as goal
 
-pub loop-j-init : goal.loop-j-init
+-- how many of the first j are k, from the front
+many_counts : (xs : List ℕ) (k j : ℕ) → j ≤ length xs → how_many (number_in xs) j k ≡ count_by (λ x. eqb x k) (take j xs)
 unfolding how_many
-loop-j-init c = (omega arith, refl)
-
-pub one_more-c-requires : goal.one_more-c-requires
-one_more-c-requires c = let l = c.loop-j in
-    let a = c.args in
-    omega (arith, many_most (number_in a.numbers.now) a.k l.j, l.invariant.1, c.loop-j-test.true, c.ranges.jobs.fits)
-
-pub loop-j-preserved : goal.loop-j-preserved
-loop-j-preserved c = let l = c.loop-j in
-    (search rules, c.one_more-c.ensures ∙ many_more _ _ l.j l.c l.invariant.1)
+many_counts xs k zero h = refl
+many_counts xs k (suc j) h = go (eqb (get_or xs j 0) k) refl (many_counts xs k j (omega arith))
+  where
+    go : (b : Bool) → eqb (get_or xs j 0) k ≡ b → how_many (number_in xs) j k ≡ count_by (λ x. eqb x k) (take j xs)
+        → cond b (how_many (number_in xs) j k + 1) (how_many (number_in xs) j k) ≡ count_by (λ x. eqb x k) (take (suc j) xs)
+    go true t e = ap (λ (n : ℕ). n + 1) e ∙ sym (rw (add-one j) at (count_by_more_yes (λ x. eqb x k) xs j 0 (omega arith) t))
+    go false t e = e ∙ sym (rw (add-one j) at (count_by_more_no (λ x. eqb x k) xs j 0 (omega arith) t))
 
 pub returns : goal.returns
-returns c = let l = c.loop-j in
+returns c =
     let a = c.args in
-    let e : l.j ≡ a.jobs = omega (arith, l.invariant.0, c.loop-j-test.false) in
-    l.invariant.1 ∙ ap (λ (i : ℕ). how_many (number_in a.numbers.now) i a.k) e
+    let e : c.count.result ≡ count_by (λ x. eqb x a.k) (take a.jobs a.numbers.now) = search rules in
+    e ∙ sym (many_counts a.numbers.now a.k a.jobs c.requires)

@@ -1,16 +1,9 @@
 -- `decimal::limbs::number_of` meets its contract.
-use borrow.Author.Rules.{rules}
 use native.Mathlib.Omega.{arith}
 use mathlib.Core.Path.{sym, subst}
 use Prim.Native.Nat.{ℕ, ◌^◌, ◌<◌}
 use Rattle.decimal.proofs.Value.{two_limbs}
 use Rattle.decimal.proofs.limbs.number_of.Goals as goal
-
-pub bounds-l-0 : goal.bounds-l-0
-bounds-l-0 c = search rules
-
-pub bounds-l-1 : goal.bounds-l-1
-bounds-l-1 c = search rules
 
 pub overflow_mul-result : goal.overflow_mul-result
 overflow_mul-result c = record { fits = omega (arith, c.requires.1 1) }

@@ -9,48 +9,21 @@ use Rattle.decimal.proofs.limbs.over.Goals as goal
 pub loop-i-init : goal.loop-i-init
 loop-i-init c = (search rules, lowered_start _ _ c.requires.0 c.requires.2)
 
-pub overflow_sub-i : goal.overflow_sub-i
-overflow_sub-i c = search rules
-
 pub overflow_mul-t : goal.overflow_mul-t
 overflow_mul-t c =
     let l = c.loop-i in
     let h : l.left < 2 ^ 32 = omega arith in
     record { fits = omega arith }
 
-pub offset_bounds-l-i : goal.offset_bounds-l-i
-offset_bounds-l-i c = search rules
-
-pub bounds-l-i : goal.bounds-l-i
-bounds-l-i c = search rules
-
 pub overflow_add-t : goal.overflow_add-t
 overflow_add-t c =
     let l = c.loop-i in
     record { fits = dividend_fits l.left _ _ l.invariant.1.left c.requires.1 (l.invariant.1.few (l.i - 1)) }
 
-pub nonzero_div-l : goal.nonzero_div-l
-nonzero_div-l c = search rules
-
-pub offset_bounds-l-i-in-loop-i : goal.offset_bounds-l-i-in-loop-i
-offset_bounds-l-i-in-loop-i c = search rules
-
-pub bounds-l-i-in-loop-i : goal.bounds-l-i-in-loop-i
-bounds-l-i-in-loop-i c = search rules
-
-pub nonzero_rem-left : goal.nonzero_rem-left
-nonzero_rem-left c = search rules
-
-pub loop-i-smaller : goal.loop-i-smaller
-loop-i-smaller c = search rules
-
 pub loop-i-preserved : goal.loop-i-preserved
 loop-i-preserved c =
     let l = c.loop-i in
     (search rules, lowered_turn _ l.l _ l.i l.left _ (omega arith) (omega arith) c.requires.0 l.invariant.1 refl)
-
-pub shape_of-l : goal.shape_of-l
-shape_of-l c = search rules
 
 pub returns : goal.returns
 returns c =

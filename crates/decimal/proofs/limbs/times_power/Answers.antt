@@ -13,19 +13,10 @@ times-requires c =
     let l = c.loop-i in
     (c.requires.1, l.invariant.1.few, times_room _ _ _ l.i _ l.l c.requires.0 c.loop-i-test.true c.requires.3 l.invariant.1)
 
-pub overflow_step-i : goal.overflow_step-i
-overflow_step-i c = search rules
-
-pub loop-i-smaller : goal.loop-i-smaller
-loop-i-smaller c = search rules
-
 pub loop-i-preserved : goal.loop-i-preserved
 loop-i-preserved c =
     let l = c.loop-i in
     (search rules, times_more _ _ _ l.i l.l _ l.invariant.1 c.times.ensures)
-
-pub shape_of-l : goal.shape_of-l
-shape_of-l c = search rules
 
 pub returns : goal.returns
 returns c =

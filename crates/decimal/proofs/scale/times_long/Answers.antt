@@ -1,25 +1,15 @@
 -- `decimal::scale::times_long` meets its contract.
-use borrow.Author.Rules.{rules}
 use Rattle.decimal.proofs.Powers.{big_pos, long_room, long_rest, times_both}
 use Rattle.decimal.proofs.scale.times_long.Goals as goal
-
-pub nonzero_div-n : goal.nonzero_div-n
-nonzero_div-n c = search rules
 
 pub times_power-requires : goal.times_power-requires
 times_power-requires c =
     (big_pos c.args.k c.args.big c.args.size c.args.n c.requires.2 c.requires.0, c.requires.3, c.requires.5, long_room c.args.k c.args.big c.args.size c.args.n c.requires.2 c.requires.0 _ _ c.requires.6)
 
-pub nonzero_rem-n : goal.nonzero_rem-n
-nonzero_rem-n c = search rules
-
 pub times_power-requires-2 : goal.times_power-requires-2
 times_power-requires-2 c =
     let t = c.times_power in
     (c.requires.0, c.requires.1, t.ensures.few, long_rest c.args.k c.args.big c.args.size c.args.n c.requires.2 c.requires.0 _ _ _ t.ensures c.requires.6)
-
-pub shape_of-l : goal.shape_of-l
-shape_of-l c = search rules
 
 pub returns : goal.returns
 returns c =

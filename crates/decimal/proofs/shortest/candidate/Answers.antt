@@ -1,15 +1,8 @@
 -- `decimal::shortest::candidate` meets its contract.
-use borrow.Author.Rules.{rules}
 use mathlib.Core.Path.{sym, ◌∙◌}
 use Rattle.decimal.specs.Shortest.{candidate_of}
 use Rattle.decimal.proofs.Digits.{next_few, above_few, below_few}
 use Rattle.decimal.proofs.shortest.candidate.Goals as goal
-
-pub nonzero_div-d : goal.nonzero_div-d
-nonzero_div-d c = search rules
-
-pub up_first-requires : goal.up_first-requires
-up_first-requires c = search rules
 
 pub overflow_add-d : goal.overflow_add-d
 overflow_add-d c = record { fits = next_few _ _ c.requires.0.few }

@@ -1,5 +1,4 @@
 -- `decimal::shortest::span_of` meets its contract.
-use borrow.Author.Rules.{rules}
 use mathlib.Core.Path.{sym, ap, subst, ◌∙◌}
 use Prim.Native.Nat.{ℕ, ◌+◌, ◌*◌, ◌%◌, ◌^◌, ◌<◌}
 use native.Mathlib.Omega.{arith}
@@ -11,26 +10,8 @@ use Rattle.decimal.proofs.Units.{whole_few, whole_many}
 use Rattle.decimal.proofs.Digits.{edge_few, positive}
 use Rattle.decimal.proofs.shortest.span_of.Goals as goal
 
-pub overflow_mul-m : goal.overflow_mul-m
-overflow_mul-m c = search rules
-
-pub cut_at-middle-requires : goal.cut_at-middle-requires
-cut_at-middle-requires c = search rules
-
-pub low_edge-requires : goal.low_edge-requires
-low_edge-requires c = search rules
-
 pub cut_at-below-requires : goal.cut_at-below-requires
 cut_at-below-requires c = (c.requires.0, c.requires.1, subst (λ (n : ℕ). n < 2 ^ 56) (sym c.low_edge.ensures) (edge_few _ c.args.narrow c.requires.3))
-
-pub overflow_mul-m-2 : goal.overflow_mul-m-2
-overflow_mul-m-2 c = search rules
-
-pub overflow_add-m : goal.overflow_add-m
-overflow_add-m c = search rules
-
-pub cut_at-above-requires : goal.cut_at-above-requires
-cut_at-above-requires c = search rules
 
 pub least_of-requires : goal.least_of-requires
 least_of-requires c =

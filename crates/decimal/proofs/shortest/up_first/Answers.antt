@@ -1,18 +1,11 @@
 -- `decimal::shortest::up_first` meets its contract.
-use borrow.Author.Rules.{rules}
 use borrow.Author.Tests.{eq-eqb, ne_eqb}
 use Rattle.decimal.specs.Shortest.{up_first}
 use Rattle.decimal.proofs.Digits.{twice_rest}
 use Rattle.decimal.proofs.shortest.up_first.Goals as goal
 
-pub nonzero_rem-rest : goal.nonzero_rem-rest
-nonzero_rem-rest c = search rules
-
 pub overflow_mul-rest : goal.overflow_mul-rest
 overflow_mul-rest c = record { fits = twice_rest _ _ c.requires.1 c.requires.2 }
-
-pub nonzero_div-result : goal.nonzero_div-result
-nonzero_div-result c = search rules
 
 pub returns-then-s : goal.returns-then-s
 unfolding up_first

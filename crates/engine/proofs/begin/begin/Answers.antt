@@ -1,5 +1,6 @@
 -- `engine::begin::begin` meets its contract.
+use borrow.Author.Rules.{rules}
 use Rattle.engine.proofs.begin.begin.Goals as goal
 
 pub returns : goal.returns
-returns c = rw (c.stamp_base.ensures, c.fill.ensures, c.fill-2.ensures, c.fill-3.ensures, c.forget.ensures)
+returns c = record { all = rw (c.stamp_base.ensures, c.fill.ensures.after (λ y e. e), c.fill-2.ensures.after (λ y e. e), c.fill-3.ensures.after (λ y e. e), c.forget.ensures); kept = search rules }

@@ -4,4 +4,4 @@ use Rattle.engine.proofs.told.ended.Goals as goal
 
 pub returns : goal.returns
 unfolding ending_of
-returns c = rw (c.dc_verdict_of.ensures, c.verdict_of.ensures)
+returns c = rw (c.dc_verdict.ensures, c.verdict.ensures)

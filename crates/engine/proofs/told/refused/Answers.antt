@@ -4,4 +4,4 @@ use Rattle.engine.proofs.told.refused.Goals as goal
 
 pub returns : goal.returns
 unfolding refused_of
-returns c = rw (c.place.ensures, c.number.ensures)
+returns c = rw c.number.ensures

@@ -15,9 +15,9 @@ range true q r = omega arith
 z_is : (c : goal.After-z_word) → c.z_word.result ≡ z_word c.args.q (one_of c.args.h)
 z_is c = c.z_word.ensures ∙ ap (λ (o : ℕ). z_word c.args.q o) c.one_of.ensures
 
-module _ (c : goal.After-like_of) where
+module _ (c : goal.After-abs_diff) where
   abbrev start : goal.Start
-  start = c.before.before.before.before.before.before.before
+  start = c.before.before.before.before.before.before
 
   abbrev h : Bool
   h = start.args.h
@@ -35,15 +35,15 @@ module _ (c : goal.After-like_of) where
   minus_is = c.minus_of-minus.ensures ∙ ap (λ (n : ℕ). minus_of n h) place_is
 
   word-is : c.ln_word-w.result ≡ ln_word (z_word q (one_of h))
-  word-is = c.ln_word-w.ensures ∙ ap ln_word (z_is c.before.before.before)
+  word-is = c.ln_word-w.ensures ∙ ap ln_word (z_is c.before.before)
 
-  k-is : c.apart_of.result ≡ apart p 1075
-  k-is = c.apart_of.ensures ∙ ap (λ (n : ℕ). apart n 1075) place_is
+  k-is : c.abs_diff.result ≡ apart p 1075
+  k-is = c.abs_diff.ensures ∙ ap (λ (n : ℕ). apart n 1075) place_is
 
-  like_is : c.like_of.result ≡ beq (minus_of p h) h
-  like_is = c.like_of.ensures ∙ ap (λ (b : Bool). beq b h) minus_is
+  like_is : beq c.minus_of-minus.result h ≡ beq (minus_of p h) h
+  like_is = ap (λ (b : Bool). beq b h) minus_is
 
-  float-requires : (c.apart_of.result ≤ 1075) × (c.ln_word-w.result ≤ 2 ^ 60 + 1) × (c.like_of.result ≡ false → 1 ≤ c.apart_of.result)
+  float-requires : (c.abs_diff.result ≤ 1075) × (c.ln_word-w.result ≤ 2 ^ 60 + 1) × (beq c.minus_of-minus.result h ≡ false → 1 ≤ c.abs_diff.result)
   float-requires = (
     subst (λ (n : ℕ). n ≤ 1075) (sym k-is) (k_small start.args.c h start.requires.0),
     subst (λ (n : ℕ). n ≤ 2 ^ 60 + 1) (sym word-is) (word_small h q start.requires.1),
@@ -77,4 +77,4 @@ ln_float-requires c = float-requires c
 pub returns : goal.returns
 returns c =
     let b = c.before in
-    answer (start b).args.c (q b) b.apart_of.result b.ln_word-w.result (h b) b.like_of.result b.minus_of-minus.result c.ln_float.result (k-is b) (word-is b) (like_is b) (minus_is b) c.ln_float.ensures
+    answer (start b).args.c (q b) b.abs_diff.result b.ln_word-w.result (h b) (beq b.minus_of-minus.result (h b)) b.minus_of-minus.result c.ln_float.result (k-is b) (word-is b) (like_is b) (minus_is b) c.ln_float.ensures

@@ -34,4 +34,4 @@ returns c =
     let at = c.before in
     let x = at.args.x in
     let b = to_bits binary64 x in
-    c.ln_answer.ensures ∙ sym (answer_is x (size_of (field_of b) (digits_of b)) at.leading-l.result.q at.leading-l.result.c (size at.before) at.leading-l.ensures)
+    c.ln_answer.ensures ∙ sym (answer_is x (size_of (field_of b) (digits_of b)) at.leading-l.result.q at.leading-l.result.c (size at.before.before) at.leading-l.ensures)

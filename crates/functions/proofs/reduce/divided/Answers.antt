@@ -1,5 +1,5 @@
 -- `functions::reduce::divided` meets its contract. Assumes nothing.
-use Rattle.std.proofs.Common.{◌≡◌, ℕ, ◌+◌, ◌-◌, ◌*◌, ◌/◌, ◌%◌, ◌^◌, ◌<◌, ◌≤◌, sym, ap, ◌∙◌, subst, le_trans, lt_of_lt_of_le, le_of_lt, mod-eq_of_lt, arith, pow_pos, pow_mono, w64, Fits}
+use Rattle.std.proofs.Common.{◌≡◌, ℕ, ◌+◌, ◌-◌, ◌*◌, ◌/◌, ◌%◌, ◌^◌, ◌<◌, ◌≤◌, sym, ap, ◌∙◌, subst, lt_of_lt_of_le, mod-eq_of_lt, arith, pow_pos, pow_mono, w64, Fits}
 use Rattle.functions.proofs.Divide as divide
 use Rattle.functions.proofs.reduce.divided.Goals as goal
 
@@ -27,12 +27,6 @@ module _ (m start n : ℕ) (least : 2 ^ 61 ≤ m) (most : m < 2 ^ 63) (under : s
 
     once_more : m ≤ left → (start * 2 ^ n ≡ (k + 1) * m + (left - m)) × (left - m < m) × (k + 1 < 2 ^ n)
     once_more h = divide.once_more start m (2 ^ n) least most under (pow_pos n) few left left_word wrapped h
-
-pub taken-left-requires : goal.taken-left-requires
-taken-left-requires c =
-    let a = c.args in
-    let r = c.requires in
-    (subst (λ (k : ℕ). k ≤ 2 ^ 22) (sym (quotient a.m a.start a.n r.0 r.1 r.2 r.3)) (le_trans (le_of_lt (less a.m a.start a.n r.0 r.1 r.2 r.3)) (few a.m a.start a.n r.0 r.1 r.2 r.3)), r.1)
 
 pub overflow_add-result : goal.overflow_add-result
 overflow_add-result c =

@@ -1,5 +1,5 @@
 -- `functions::sines::sin_large` meets its contract. Assumes nothing.
-use Rattle.std.proofs.Common.{◌≡◌, ℕ, ◌/◌, ◌%◌, ◌^◌, ◌<◌, ◌≤◌, Bool, cond, eqb, sym, ap, ◌∙◌, subst, lt_of_le_of_lt, mul-lt-mul_of_pos_right, arith, lit<, lit≤}
+use Rattle.std.proofs.Common.{◌≡◌, ℕ, ◌/◌, ◌%◌, ◌^◌, ◌<◌, ◌≤◌, Bool, cond, eqb, sym, ap, ◌∙◌, refl, subst, lt_of_le_of_lt, mul-lt-mul_of_pos_right, arith, lit<, lit≤}
 use lib.Ieee.{Float, binary64, of_bits, neg, unlike}
 use lib.Ieee.Positive.{num, den, den_pos}
 use Rattle.num.specs.Floats.{sign}
@@ -42,5 +42,5 @@ pub returns : goal.returns
 returns c =
     let r = c.reduction-p in
     answer c.args.x c.signed.result r.result.k r.result.f c.wave_word.result r.result.under c.negative.result
-    c.wave_side.result c.unlike_of-minus.result r.ensures.0 r.ensures.1 r.ensures.2 c.negative.ensures
-    c.wave_side.ensures c.unlike_of-minus.ensures c.wave_word.ensures c.signed.ensures
+    c.wave_side.result (unlike c.negative.result c.wave_side.result) r.ensures.0 r.ensures.1 r.ensures.2 c.negative.ensures
+    c.wave_side.ensures refl c.wave_word.ensures c.signed.ensures

@@ -36,6 +36,6 @@ returns c = λ n d dp e.
     let t = c.args.digits in
     let l = normal_leads x t (omega arith) (omega arith) c.requires.2 in
     let z : size (n * 2 ^ 1074 / d) ≡ x + 52 = ap size (ap (λ (a : ℕ). a / d) e ∙ mul-div_cancel (size_of x t) dp) ∙ size_is (size_of x t) (t + 2 ^ 52) (x + 52) l.same l.least l.most in
-    size-by n d x (x + 52) _ _ c.upper.result c.sine_sum.result c.upper-p.result c.args.minus c.signed.result z refl
+    size-by n d x (x + 52) _ _ c.upper.result c.falling.result c.upper-p.result c.args.minus c.signed.result z refl
     (some n d x t dp (omega arith) c.requires.1 c.requires.2 e) (own_digits n d x t dp (omega arith) (omega arith) e)
-    c.upper.ensures c.sine_sum.ensures c.upper-p.ensures c.signed.ensures
+    c.upper.ensures c.falling.ensures c.upper-p.ensures c.signed.ensures

@@ -9,8 +9,8 @@ unfolding wave_word sine_word
 returns-then-k-eq0 c =
     let f = c.args.f in
     rw (eq-eqb (c.args.k % 2) 0 c.if-k-eq0.true)
-    (c.upper.ensures ∙ ap (λ (n : ℕ). f * n / 2 ^ 64) (c.sine_sum.ensures ∙ ap (λ (n : ℕ). falling sine_words n) c.upper-y.ensures))
+    (c.upper.ensures ∙ ap (λ (n : ℕ). f * n / 2 ^ 64) (c.falling.ensures ∙ ap (λ (n : ℕ). falling sine_words n) c.upper-y.ensures))
 
 pub returns-else-k-eq0 : goal.returns-else-k-eq0
 unfolding wave_word cosine_word
-returns-else-k-eq0 c = rw (ne_eqb (c.args.k % 2) 0 c.if-k-eq0.false) (c.cosine_sum.ensures ∙ ap (λ (n : ℕ). falling cosine_words n) c.upper-y.ensures)
+returns-else-k-eq0 c = rw (ne_eqb (c.args.k % 2) 0 c.if-k-eq0.false) (c.falling-else-k-eq0.ensures ∙ ap (λ (n : ℕ). falling cosine_words n) c.upper-y.ensures)

@@ -1,11 +1,14 @@
 -- `groups::diodes::diode_in` meets its contract: by what the record decodes to. Assumes nothing.
-use Rattle.groups.specs.Listed.{diode_in}
+use Rattle.std.proofs.Common.{◌≡◌, refl, Ok, Err, ◌∙◌, ap}
+use Rattle.std.specs.Prelude.{is_ok}
+use Rattle.sheet.specs.Record.{Decoded}
+use Rattle.groups.specs.Listed.{diode_in, good_of}
 use Rattle.groups.proofs.diodes.diode_in.Goals as goal
 
-pub returns-in_default : goal.returns-in_default
-unfolding diode_in
-returns-in_default c = rw (← c.record_in.ensures, c.in_default.is)
+same : (d : Decoded) → is_ok d ≡ good_of d
+same (Ok e) = refl
+same (Err k) = refl
 
 pub returns : goal.returns
 unfolding diode_in
-returns c = rw (← c.record_in.ensures, c.in-Good.is)
+returns c = c.is_ok.ensures.value ∙ (same c.record_in.result ∙ ap good_of c.record_in.ensures)

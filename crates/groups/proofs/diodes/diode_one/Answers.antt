@@ -11,4 +11,4 @@ returns-in_default c = sym (quiet_biased _ _ _ _ _ _ _ (not_diode _ c.in_default
 
 pub returns : goal.returns
 unfolding biased linearized
-returns c = rw c.in-D.is (rw (c.linearize_at-l.ensures, c.number_at.ensures, c.across.ensures, c.thermal_voltage.ensures) at c.stamp_model.ensures)
+returns c = rw c.in-D.is (rw (c.linearize_at-l.ensures, c.new-d.ensures, c.number_at.ensures, c.across.ensures) at c.stamp_model.ensures)

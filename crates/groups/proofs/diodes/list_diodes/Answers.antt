@@ -41,4 +41,4 @@ pub returns : goal.returns
 unfolding diode_places
 returns c =
     let l = c.loop-i in
-    rw (← c.records.ensures, ← c.walked-count.ensures, le_antisymm c.loop-i-test.false l.invariant.0) l.invariant.5
+    rw (← c.records.ensures, ← c.min.ensures, ← c.min-count.ensures, le_antisymm c.loop-i-test.false l.invariant.0) l.invariant.5

@@ -2,4 +2,4 @@
 use Rattle.groups.proofs.diodes.stamp_model.Goals as goal
 
 pub returns : goal.returns
-returns c = rw (c.in-Model.is, c.stamp_diode.ensures, c.put.ensures)
+returns c = rw (c.in-Some.is, c.stamp_diode.ensures, c.put.ensures)

@@ -2,4 +2,4 @@
 use Rattle.groups.proofs.sources.pattern.Goals as goal
 
 pub returns : goal.returns
-returns c = rw (c.level-v.ensures, c.source_time.ensures)
+returns c = rw (c.level.ensures, c.source_time.ensures)

@@ -15,28 +15,28 @@ use Rattle.groups.proofs.storage.storage_at.Goals as goal
 earlier : (t : Bool) (k : ℕ) → k < 8 → unstored t k ≡ true
 earlier t k h = rw (ne_eqb k 11 (λ q. omega (arith, h, q)), ne_eqb k 8 (λ q. omega (arith, h, q)))
 
-pub returns-then-k-lt-CAPACITOR : goal.returns-then-k-lt-CAPACITOR
+pub returns-then-k-number : goal.returns-then-k-number
 unfolding stamped
-returns-then-k-lt-CAPACITOR c =
+returns-then-k-number c =
     let a = c.args in
-    let few = earlier a.p.transient (kind_at a.sheet.now a.i) (rw c.kind_at-k.ensures at c.if-k-lt-CAPACITOR.true) in
+    let few = earlier a.p.transient (kind_at a.sheet.now a.i) (rw (c.kind_at-k.ensures, c.number.ensures) at c.if-k-number.true) in
     rw (unstored_nothing a.p a.x.now a.memory.now a.sheet.now a.i few)
 
-pub returns-then-k-eq-INDUCTOR : goal.returns-then-k-eq-INDUCTOR
-returns-then-k-eq-INDUCTOR c =
-    let k = sym c.kind_at-k.ensures ∙ c.if-k-eq-INDUCTOR.true in
+pub returns-then-k-number-2 : goal.returns-then-k-number-2
+returns-then-k-number-2 c =
+    let k = sym c.kind_at-k.ensures ∙ (c.if-k-number-2.true ∙ c.number-2.ensures) in
     rw (c.element_as.ensures ∙ decode_own _ _ (sym k)) at c.storage_one.ensures
 
-pub returns-then-k-p : goal.returns-then-k-p
-returns-then-k-p c =
-    let b = (both _ _).0 c.if-k-p.true in
-    let k = sym c.kind_at-k.ensures ∙ eqb-true _ _ b.0 in
-    rw (c.element_as-then-k-p.ensures ∙ decode_own _ _ (sym k)) at c.storage_one-then-k-p.ensures
+pub returns-then-k-number-3 : goal.returns-then-k-number-3
+returns-then-k-number-3 c =
+    let b = (both _ _).0 c.if-k-number-3.true in
+    let k = sym c.kind_at-k.ensures ∙ (eqb-true _ _ b.0 ∙ c.number-3.ensures) in
+    rw (c.element_as-then-k-number-3.ensures ∙ decode_own _ _ (sym k)) at c.storage_one-then-k-number-3.ensures
 
-pub returns-else-k-p : goal.returns-else-k-p
+pub returns-else-k-number-3 : goal.returns-else-k-number-3
 unfolding stamped
-returns-else-k-p c =
+returns-else-k-number-3 c =
     let a = c.args in
     let e = c.kind_at-k.ensures in
-    let other : unstored a.p.transient (kind_at a.sheet.now a.i) ≡ true = rw (← e, ne_eqb _ _ c.if-k-eq-INDUCTOR.false, c.if-k-p.false) in
+    let other : unstored a.p.transient (kind_at a.sheet.now a.i) ≡ true = rw (← e, ne_eqb _ _ (λ q. c.if-k-number-2.false (q ∙ sym c.number-2.ensures)), rw c.number-3.ensures at c.if-k-number-3.false) in
     rw (unstored_nothing a.p a.x.now a.memory.now a.sheet.now a.i other)

@@ -5,7 +5,7 @@ use mathlib.Core.Path.{ap, ◌∙◌}
 use Rattle.numbers.specs.Kinds.{inductor}
 use Rattle.loops.specs.Loop.{turns}
 use Rattle.loops.specs.Laws.Loop.{more, done}
-use Rattle.sheet.specs.declared.Decoded.{Decoded}
+use Rattle.sheet.specs.Record.{Decoded}
 use Rattle.groups.specs.Records.{on_record}
 use Rattle.groups.specs.Storage.{with_current, with_current_at, taken_of}
 use Rattle.groups.specs.Laws.Passing.{in_group}

@@ -9,7 +9,7 @@ loop-i-init c = (search rules, lowered_start _ _ c.requires.0)
 pub loop-i-preserved : goal.loop-i-preserved
 loop-i-preserved c =
     let l = c.loop-i in
-    (search rules, lowered_turn _ l.l _ l.i l.left _ _ (omega arith) (omega arith) c.part-t.ensures.0 c.part-t.ensures.1 l.invariant.1)
+    (search rules, lowered_turn _ l.l _ l.i l.left _ _ (omega arith) (omega arith) c.part-whole.ensures.0 c.part-whole.ensures.1 l.invariant.1)
 
 pub returns : goal.returns
 returns c =

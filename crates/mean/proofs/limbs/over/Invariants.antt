@@ -5,6 +5,3 @@ use Rattle.mean.proofs.limbs.over.Given as goal
 
 abbrev pub invariant-loop-i : goal.invariant-loop-i
 invariant-loop-i l = (l.i ≤ length l.initial.l) × Lowered l.initial.l l.d l.i l.left l.l
-
-abbrev pub decreases-loop-i : goal.decreases-loop-i
-decreases-loop-i l = l.i

@@ -6,8 +6,8 @@ use lib.Ieee.Bits.{nan_bits_above}
 use Rattle.mean.specs.Leading.{pattern_of, nearest_fourth}
 use Rattle.mean.proofs.pack.packed.Goals as goal
 
-sum : (c : goal.After-capped) → c.sign_bit.result + c.capped.result ≡ cond c.args.minus (2 ^ 63) 0 + pattern_of c.args.places (nearest_fourth c.args.word)
-sum c = λ j. c.sign_bit.ensures j + c.capped.ensures j
+sum : (c : goal.After-min) → c.sign_bit.result + c.min.result ≡ cond c.args.minus (2 ^ 63) 0 + pattern_of c.args.places (nearest_fourth c.args.word)
+sum c = λ j. c.sign_bit.ensures j + c.min.ensures j
 
 fits : (s : Bool) (n : ℕ) → n ≤ 2047 * 2 ^ 52 → cond s (2 ^ 63) 0 + n < 2 ^ 64
 fits true n h = omega arith

@@ -4,4 +4,4 @@ use Rattle.models.proofs.diode.linearize.Goals as goal
 
 pub returns : goal.returns
 unfolding linearized
-returns c = rw (← c.thermal_voltage.ensures) c.linearize_at.ensures
+returns c = rw c.new.ensures at c.linearize_at.ensures

@@ -2,10 +2,10 @@
 use Rattle.models.specs.Sine.{sine_at, level_of}
 use Rattle.models.proofs.sine.evaluate.Goals as goal
 
-pub returns-in-Value : goal.returns-in-Value
+pub returns : goal.returns
 unfolding sine_at level_of
-returns-in-Value c = rw (← c.sin-s.ensures, c.in-Value.is)
+returns c = rw (← c.sin.ensures, c.in_ok-y.was)
 
-pub returns-in-Refused : goal.returns-in-Refused
+pub returns-in_err-y : goal.returns-in_err-y
 unfolding sine_at level_of
-returns-in-Refused c = rw (← c.sin-s.ensures, c.in-Refused.is)
+returns-in_err-y c = rw (c.from_residual.ensures, ← c.sin.ensures, c.in_err-y.was)

@@ -2,4 +2,4 @@
 use Rattle.passes.proofs.attempt.compare.Goals as goal
 
 pub returns : goal.returns
-returns c = rw (← c.convergence_check.ensures) c.report_of.ensures
+returns c = rw (← c.convergence_check.ensures) c.from.ensures

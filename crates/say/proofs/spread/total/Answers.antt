@@ -1,9 +1,9 @@
-use Rattle.std.proofs.Common.{◌≡◌, arith, ◌∙◌}
+use Rattle.std.proofs.Common.{◌≡◌, arith}
 use Rattle.say.proofs.Laws.Totals.{total_more}
 use Rattle.say.proofs.spread.total.Goals as goal
 
 pub loop-k-preserved : goal.loop-k-preserved
-loop-k-preserved c = c.wrapping_add_u64-sum.ensures.value ∙ total_more c.args.counts.now c.loop-k.k _ c.loop-k.sum c.loop-k.invariant c.word_in.ensures
+loop-k-preserved c = total_more c.args.counts.now c.loop-k.k _ c.loop-k.sum c.loop-k.invariant c.word_in-sum.ensures
 
 pub returns : goal.returns
 returns c =

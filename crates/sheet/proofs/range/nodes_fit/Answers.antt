@@ -1,47 +1,35 @@
 -- `sheet::range::nodes_fit` meets its contract. Assumes nothing.
-use Rattle.sheet.specs.Range.{nodes_fit, nodes_of}
+use Rattle.std.proofs.Common.{◌≡◌, ◌∙◌, ap, refl, ℕ, Bool, true, false, ◌&&◌, ◌++◌, take, rules, tests}
+use Rattle.std.specs.List.{list_all}
+use Rattle.std.proofs.lemmas.Iterator.{YieldsList-from_slice}
+use Rattle.std.proofs.lemmas.Iterator.Search.{all_from_yields_List}
+use Rattle.sheet.specs.declared.Element.{Element}
+use Rattle.sheet.specs.declared.Element.TheVariants.{R, I, «V», D, Isin, Vsin, Vpwl, C, Vcvs, Vccs, L}
+use Rattle.sheet.specs.Range.{nodes_fit, nodes_of, node_below}
 use Rattle.sheet.proofs.range.nodes_fit.Goals as goal
 
-pub returns-in-R : goal.returns-in-R
-unfolding nodes_fit nodes_of
-returns-in-R c = rw c.in-R.is c.pair_fits.ensures
+twice : (a b : Bool) → (a && (b && (a && (b && true)))) ≡ (a && (b && true))
+twice true true = refl
+twice true false = refl
+twice false b = refl
 
-pub returns-in-I : goal.returns-in-I
+-- the four places ask what the nodes do
+asked : (n : ℕ) (e : Element) → list_all (node_below n) (take 4 (nodes_of e ++ nodes_of e)) ≡ nodes_fit n e
 unfolding nodes_fit nodes_of
-returns-in-I c = rw c.in-I.is c.pair_fits-in-I.ensures
+asked n (R p q x) = twice (node_below n p) (node_below n q)
+asked n (I p q x) = twice (node_below n p) (node_below n q)
+asked n («V» p q x s) = twice (node_below n p) (node_below n q)
+asked n (D p q x y) = twice (node_below n p) (node_below n q)
+asked n (Isin p q x y z) = twice (node_below n p) (node_below n q)
+asked n (Vsin p q x y z s) = twice (node_below n p) (node_below n q)
+asked n (Vpwl p q x y f k s) = twice (node_below n p) (node_below n q)
+asked n (C p q x) = twice (node_below n p) (node_below n q)
+asked n (Vcvs p q cp cq x s) = refl
+asked n (Vccs p q cp cq x) = refl
+asked n (L p q x s) = twice (node_below n p) (node_below n q)
 
-pub returns-in-V : goal.returns-in-V
-unfolding nodes_fit nodes_of
-returns-in-V c = rw c.in-V.is c.pair_fits-in-V.ensures
-
-pub returns-in-D : goal.returns-in-D
-unfolding nodes_fit nodes_of
-returns-in-D c = rw c.in-D.is c.pair_fits-in-D.ensures
-
-pub returns-in-Isin : goal.returns-in-Isin
-unfolding nodes_fit nodes_of
-returns-in-Isin c = rw c.in-Isin.is c.pair_fits-in-Isin.ensures
-
-pub returns-in-Vsin : goal.returns-in-Vsin
-unfolding nodes_fit nodes_of
-returns-in-Vsin c = rw c.in-Vsin.is c.pair_fits-in-Vsin.ensures
-
-pub returns-in-Vpwl : goal.returns-in-Vpwl
-unfolding nodes_fit nodes_of
-returns-in-Vpwl c = rw c.in-Vpwl.is c.pair_fits-in-Vpwl.ensures
-
-pub returns-in-C : goal.returns-in-C
-unfolding nodes_fit nodes_of
-returns-in-C c = rw c.in-C.is c.pair_fits-in-C.ensures
-
-pub returns-in-Vcvs : goal.returns-in-Vcvs
-unfolding nodes_fit nodes_of
-returns-in-Vcvs c = rw c.in-Vcvs.is c.pairs_fit.ensures
-
-pub returns-in-Vccs : goal.returns-in-Vccs
-unfolding nodes_fit nodes_of
-returns-in-Vccs c = rw c.in-Vccs.is c.pairs_fit-in-Vccs.ensures
-
-pub returns-in-L : goal.returns-in-L
-unfolding nodes_fit nodes_of
-returns-in-L c = rw c.in-L.is c.pair_fits-in-L.ensures
+pub returns : goal.returns
+returns c =
+    let n = c.args.nodes in
+    all_from_yields_List (node_below n) _ _ _ c.all.ensures.ran (YieldsList-from_slice c.nodes.result cc) (λ x b q k. search (rules, tests))
+    ∙ (ap (list_all (node_below n)) c.nodes.ensures ∙ asked n c.args.e)

@@ -1,10 +1,8 @@
 -- What the loop of `solve::elimination::clear_below` keeps true.
-use mathlib.Core.Path.{◌≡◌}
-use Prim.Native.Nat.{◌+◌, ◌-◌, ◌≤◌}
-use lib.ListN.{length}
+use Rattle.std.proofs.Common.{◌≡◌, ◌+◌, ◌-◌}
 use Rattle.loops.specs.Loop.{turns}
 use Rattle.solve.specs.Solve.{row_start, clear_one}
 use Rattle.solve.proofs.elimination.clear_below.Given as goal
 
-abbrev pub invariant-loop-i : goal.invariant-loop-i
-invariant-loop-i l = (l.i ≤ l.i-end) × (length l.m ≡ length l.initial.m) × (l.from ≡ row_start l.n l.k + l.k) × (l.len ≡ l.n + 1 - l.k) × (l.from + l.len ≤ length l.initial.m) × (l.m ≡ turns l.i (clear_one (row_start l.n) l.n l.k) l.initial.m)
+abbrev pub invariant-loop-r : goal.invariant-loop-r
+invariant-loop-r l = l.m ≡ turns (l.r - (l.k + 1)) (clear_one (row_start l.n) l.n l.k) l.initial.m

@@ -1,47 +1,39 @@
 -- `solve::elimination::eliminate` meets its contract. Assumes nothing.
-use mathlib.Core.Path.{◌≡◌, refl, sym, ap, ◌∙◌, subst}
-use mathlib.Core.Bool.{Bool, true, false}
-use mathlib.Core.List.{List}
-use Prim.Native.Nat.{ℕ, ◌+◌, ◌-◌}
-use native.Mathlib.Omega.{arith}
-use lib.Ieee.{Float}
+use Rattle.std.proofs.Common.{◌≡◌, ◌+◌, ◌-◌, ◌≤◌, ◌<◌, ℕ, Bool, true, false, List, refl, sym, ap, ◌∙◌, arith, rules}
+use Rattle.std.specs.Prelude.{Float}
 use Rattle.loops.specs.Loop.{turns}
-use Rattle.loops.specs.Laws.Loop.{more, done}
+use Rattle.loops.specs.Laws.Loop.{more, turns_idle}
 use Rattle.solve.specs.Solve.{row_start, column, column_next, eliminated}
-use borrow.Author.Rules.{rules}
 use Rattle.solve.proofs.elimination.eliminate.Goals as goal
-use Rattle.solve.proofs.elimination.eliminate.Goals.{then-going, else-going}
 
--- a column that is taken, and one after a zero pivot
-ran : (row : ℕ → ℕ) (n i : ℕ) (going : Bool) (m : List Float) → going ≡ true → column row n (i + 1) m ≡ column_next row n i (going, m)
-ran row n i going m e = subst (λ (b : Bool). column row n (i + 1) m ≡ column_next row n i (b, m)) (sym e) refl
+-- column k, after those before it: e says that it is taken, and t what it leaves
+taken : (n k : ℕ) (m₀ m m₁ : List Float) (going b : Bool) → 0 < k → ◌≡◌ {A = Bool × List Float} (true, m) (turns (k - 1) (column_next (row_start n) n) (true, m₀)) → ◌≡◌ {A = Bool × List Float} (going, m₁) (column (row_start n) n k m) → going ≡ b
+    → ◌≡◌ {A = Bool × List Float} (b, m₁) (turns k (column_next (row_start n) n) (true, m₀))
+taken n k m₀ m m₁ going b h e t g =
+    let here : k - 1 + 1 ≡ k = omega arith in
+    rw (← g) (t ∙ (rw here at (more (column_next (row_start n) n) _ _ (k - 1) e)))
 
-stopped : (row : ℕ → ℕ) (n i : ℕ) (going : Bool) (m : List Float) → going ≡ false → ◌≡◌ {A = Bool × List Float} (going, m) (column_next row n i (going, m))
-stopped row n i going m e = subst (λ (b : Bool). ◌≡◌ {A = Bool × List Float} (b, m) (column_next row n i (b, m))) (sym e) refl
-
-pub returns-then-n-lt3 : goal.returns-then-n-lt3
+-- after a zero pivot nothing is taken any more
+stopped : (n k : ℕ) (m₀ m : List Float) → k ≤ n - 2 → ◌≡◌ {A = Bool × List Float} (false, m) (turns k (column_next (row_start n) n) (true, m₀)) → m ≡ eliminated n m₀
 unfolding eliminated
-returns-then-n-lt3 c =
+stopped n k m₀ m h e =
+    ap (λ (s : Bool × List Float). s.1) (e ∙ sym (turns_idle (column_next (row_start n) n) (true, m₀) k (n - 2) h (λ i p q. rw (← e) refl)))
+
+pub returns-then-not-column : goal.returns-then-not-column
+returns-then-not-column c =
+    let k = c.loop-k.k in
     let a = c.args in
-    let e : a.n - 2 ≡ 0 = omega arith in
-    sym (ap (λ (d : ℕ). (turns d (column_next (row_start a.n) a.n) (true, a.m.now)).1) e)
+    stopped a.n k a.m.now _ (omega arith) (taken a.n k a.m.now _ _ _ false (search rules) c.loop-k.invariant.1 c.column.ensures c.if-not-column.true)
 
-pub loop-i-init : goal.loop-i-init
-loop-i-init c = (search rules, omega arith, refl, λ s e. e)
-
-pub loop-i-preserved : goal.loop-i-preserved
-loop-i-preserved c =
-    let l = c.loop-i in (
-      search rules,
-      search rules,
-      elim c.if-going.branch [ then-going w ↦ rw w.m-is (search rules) | else-going w ↦ rw w.m-is (search rules) ],
-      λ s e. let next = more _ _ _ l.i (l.invariant.3 s e) in
-          elim c.if-going.branch [
-            | then-going w ↦ rw (w.m-is, w.going-is) (w.column-going-then-going.ensures ∙ ran _ _ _ _ _ w.if-going.true ∙ next)
-            | else-going w ↦ rw (w.m-is, w.going-is) (stopped _ _ _ _ _ w.if-going.false ∙ next)
-          ],
-    )
+pub loop-k-preserved : goal.loop-k-preserved
+loop-k-preserved c =
+    let k = c.loop-k.k in
+    let a = c.args in
+    let next : k + 1 - 1 ≡ k = omega arith in
+    (search rules, rw next (taken a.n k a.m.now _ _ _ true (search rules) c.loop-k.invariant.1 c.column.ensures c.if-not-column.false))
 
 pub returns : goal.returns
 unfolding eliminated
-returns c = ap (λ (s : Bool × List Float). s.1) (done _ _ _ c.loop-i.i _ c.loop-i.invariant.1 (omega arith) (c.loop-i.invariant.3 (true, c.args.m.now) c.column-going.ensures))
+returns c =
+    let e : c.loop-k.k - 1 ≡ c.args.n - 2 = omega arith in
+    ap (λ (s : Bool × List Float). s.1) (rw e at c.loop-k.invariant.1)

@@ -5,6 +5,3 @@ use Rattle.solve.proofs.pivot.reach.Given as goal
 
 abbrev pub invariant-loop-r : goal.invariant-loop-r
 invariant-loop-r l = (l.k < l.r) × (l.r ≤ l.n) × Empty l.n l.k l.r l.m
-
-abbrev pub decreases-loop-r : goal.decreases-loop-r
-decreases-loop-r l = l.r

@@ -1,12 +1,9 @@
 -- `solve::pivot::search` meets its contract. Assumes nothing.
 use mathlib.Core.Path.{◌≡◌, refl, ap}
-use mathlib.Core.Bool.{true}
-use Prim.Native.Nat.{ℕ, ◌+◌, ◌<◌}
+use Prim.Native.Nat.{ℕ, ◌<◌}
 use native.Mathlib.Omega.{arith}
 use lib.ListN.{length, length-set}
-use lib.Ieee.{Float, eq}
-use Rattle.num.specs.Floats.{nought}
-use Rattle.num.specs.Lists.{«at»}
+use lib.Ieee.{Float}
 use Rattle.solve.specs.Solve.{row_start, index_of_next_abs}
 use Rattle.solve.proofs.Search.{not_ne, best_first, best_next, best_same, best_row, rows_longer}
 use Rattle.solve.proofs.Listed.{list_starts, list_same, list_longer}
@@ -17,18 +14,18 @@ use Rattle.solve.proofs.pivot.search.Goals.{then-x, else-x}
 pub loop-r-init : goal.loop-r-init
 loop-r-init c =
     let a = c.args in
-    let e = rw c.row_start.ensures.0 at c.larger_of-best.ensures in
+    let e = rw c.entry.ensures at c.or-best.ensures in
     (search rules, search rules, search rules, refl, best_row a.n a.k _ _ _ e (search rules) (search rules), best_first (row_start a.n) a.k a.m.now _ e, λ i l. absurd (omega arith), list_starts a.n a.k a.list.now a.m.now)
 
 pub loop-r-preserved : goal.loop-r-preserved
 loop-r-preserved c =
     let l = c.loop-r in
     let a = c.args in
-    let start = c.row_start-in-loop-r.ensures.0 in
+    let here = c.entry-x.ensures in
     let room : l.count < length l.list = omega arith in
     elim c.if-x.branch [
       | then-x w ↦
-          let e = rw start at w.larger_of-best-then-x.ensures in (
+          let e = rw here at w.or-best-then-x.ensures in (
             search rules,
             search rules,
             rw w.count-is (omega arith),
@@ -39,8 +36,7 @@ loop-r-preserved c =
             rw (w.count-is, w.list-is) (list_longer a.n a.k l.list a.m.now l.r l.count (omega arith) (omega arith) l.invariant.7 room),
           )
       | else-x w ↦
-          let y : eq («at» a.m.now (c.row_start-in-loop-r.result + a.k)) nought ≡ true = not_ne _ w.if-x.false in
-          let z = rw start at y in (
+          let z = rw here at (not_ne _ w.if-x.false) in (
             search rules,
             search rules,
             rw w.count-is (omega arith),

@@ -15,9 +15,6 @@ use Rattle.solve.proofs.Unknowns.{any_vector, last_finite, more_finite}
 use borrow.Author.Rules.{rules}
 use Rattle.solve.proofs.substitution.substitute.Goals as goal
 
-pub bounds-x-i : goal.bounds-x-i
-bounds-x-i c = simp length-set (omega arith)
-
 pub loop-i-init : goal.loop-i-init
 loop-i-init c =
     let a = c.args in

@@ -13,7 +13,7 @@ pub returns-in-Behind : goal.returns-in-Behind
 returns-in-Behind c = ap numbers_of (sym c.in-Behind.is)
 
 pub returns-in-Unjudged : goal.returns-in-Unjudged
-returns-in-Unjudged c = ap numbers_of (sym c.in-Unjudged.is)
+returns-in-Unjudged c = rw c.number.ensures (ap numbers_of (sym c.in-Unjudged.is))
 
 pub returns-in-Rejected : goal.returns-in-Rejected
 returns-in-Rejected c = ap numbers_of (sym c.in-Rejected.is)

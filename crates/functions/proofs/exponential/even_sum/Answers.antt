@@ -1,7 +1,0 @@
--- `functions::exponential::even_sum` meets its contract. Assumes nothing.
-use Rattle.functions.specs.Words.{horner}
-use Rattle.functions.proofs.exponential.even_sum.Goals as goal
-
-pub returns : goal.returns
-unfolding horner
-returns c = cc

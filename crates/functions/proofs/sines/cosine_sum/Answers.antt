@@ -1,7 +1,0 @@
--- `functions::sines::cosine_sum` meets its contract. Assumes nothing.
-use Rattle.functions.specs.Words.{falling}
-use Rattle.functions.proofs.sines.cosine_sum.Goals as goal
-
-pub returns : goal.returns
-unfolding falling
-returns c = cc

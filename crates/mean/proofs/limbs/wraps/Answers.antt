@@ -1,9 +1,0 @@
--- `mean::limbs::wraps` meets its contract.
-use Rattle.std.proofs.Common.{le-ltb, lt-ltb}
-use Rattle.mean.proofs.limbs.wraps.Goals as goal
-
-pub returns-then-a-b : goal.returns-then-a-b
-returns-then-a-b c = rw (lt-ltb _ _ c.if-a-b.true)
-
-pub returns-else-a-b : goal.returns-else-a-b
-returns-else-a-b c = rw (le-ltb _ _ c.if-a-b.false)

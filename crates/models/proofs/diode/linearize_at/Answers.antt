@@ -1,6 +1,0 @@
--- `models::diode::linearize_at` meets its contract. Assumes nothing.
-use Rattle.models.proofs.Laws.Situations.{limited_chosen}
-use Rattle.models.proofs.diode.linearize_at.Goals as goal
-
-pub returns : goal.returns
-returns c = rw (limited_chosen _ _ _ _, ← c.situation_of-s.ensures, ← c.limited_in-v_d_i.ensures) c.model_at.ensures
