@@ -1,7 +1,6 @@
-// The buffers as a run begins: the base matrix stamped, zeros for the vectors and the system, and the memory of each diode and inductor at 0.0.
+// The buffers as a run begins, over a base matrix that is stamped: zeros for the vectors and the system, and the memory of each diode and inductor at 0.0.
 ghost use Rattle.std.specs.Prelude.{◌≡◌, [], ◌<◌, length};
 ghost use Rattle.loops.specs.Loop.{zeros_like};
-ghost use Rattle.groups.specs.Stamping.{base_of};
 ghost use Rattle.steps.specs.Counters.{started};
 ghost use Rattle.machine.specs.State.{buffers_of, state_of};
 ghost use Rattle.passes.specs.Lent.{buffers_in, Kept};
@@ -10,15 +9,13 @@ ghost use Rattle.engine.specs.Begin.{forgotten, forget_at};
 use numbers::kind::{DIODE, INDUCTOR};
 use passes::{Buffers, Circuit};
 
-// Makes every buffer what it is before the first pass.
+// Makes every buffer but the base what it is before the first pass.
 pub fn begin(k: Circuit, accepted: &mut [f64], w: &mut Buffers)
     ensures all { state_of started accepted.new (buffers_in w.new [])
-        ≡ state_of started (zeros_like accepted.old) (buffers_of (base_of k.entry.job.nodes (length w.old.vector.now) k.entry.sheet.now w.old.base.now)
+        ≡ state_of started (zeros_like accepted.old) (buffers_of w.old.base.now
         (zeros_like w.old.system.now) (zeros_like w.old.vector.now) (forgotten k.entry.sheet.now w.old.memory.now) []) }
     ensures kept { Kept w.new w.old }
 {
-    let n = w.vector.len();
-    groups::stamp_base(k.sheet, k.job.nodes, n, w.base);
     accepted.fill(0.0);
     w.system.fill(0.0);
     w.vector.fill(0.0);

@@ -1,10 +1,10 @@
-// The work of a run on buffers of the very lengths: it begins, and runs by its budget.
+// The work of a run on buffers of the very lengths: its base matrix is stamped, it begins, and runs by its budget.
 ghost use Rattle.std.specs.Prelude.{◌≡◌, length};
 ghost use Rattle.behind.specs.Behind.{behind_number as behind_of};
 ghost use Rattle.machine.specs.State.{buffers_of, state_of};
 ghost use Rattle.passes.specs.Attempt.{circuit_of};
 ghost use Rattle.passes.specs.Lent.{circuit_in, buffers_in, Kept};
-ghost use Rattle.engine.specs.Work.{Fit, FitIn, end_of, handover_of, handover};
+ghost use Rattle.engine.specs.Work.{base_on, Fit, FitIn, end_of, handover_of, handover};
 
 use super::begin::begin;
 use behind::behind_number;
@@ -34,6 +34,7 @@ pub fn run_in(
         (end_of (circuit_of k.entry.job (length vector.old) k.entry.sheet.now k.entry.points.now) memory.old rows.old) }
 {
     let n = vector.len();
+    groups::stamp_base(k.sheet, k.job.nodes, n, base);
     let mut a = loops::cells();
     let mut w = Buffers {
         base,
@@ -54,10 +55,11 @@ fn behind_in(k: Circuit, w: &Buffers) -> u64
     behind_number(k.job.options, k.sheet, w.vector, w.memory)
 }
 
-// The same with the accepted vector lent.
+// The same with the accepted vector lent and the base stamped.
 fn work(k: Circuit, accepted: &mut [f64], w: &mut Buffers, rows: &mut [f64]) -> Counters
     requires fit { FitIn w.old }
     requires accepted_len { length accepted.old ≡ length w.old.vector.now }
+    requires stamped { w.old.base.now ≡ base_on k.job.nodes (length w.old.vector.now) k.sheet.now }
     ensures all { state_of result accepted.new (buffers_in w.new rows.new) ≡ end_of (circuit_in k.entry w.old) w.old.memory.now rows.old }
     ensures kept { Kept w.new w.old }
 {

@@ -20,9 +20,9 @@ circuit_in k w = circuit_of k.job (length w.vector.now) k.sheet.now k.points.now
 abbrev pub buffers_in : Lent → List Float → Buffers
 buffers_in w rows = buffers_of w.base.now w.system.now w.vector.now w.memory.now rows
 
--- the same buffers, each as long as it was
+-- the same buffers: the base as it was, and each other as long as it was
 pub record Kept (new old : Lent) : Type 0 where
-  pub base : new.base.ghost_name ≡ old.base.ghost_name
+  pub base : new.base ≡ old.base
   pub system : new.system.ghost_name ≡ old.system.ghost_name
   pub elimination : new.elimination.ghost_name ≡ old.elimination.ghost_name
   pub vector : new.vector.ghost_name ≡ old.vector.ghost_name

@@ -138,7 +138,7 @@ fn stamp_first(
         copy(held, w.elimination);
         return 0;
     }
-    let base = &mut *w.base;
+    let base = w.base;
     let memory = &mut *w.memory;
     let elimination = &mut *w.elimination;
     let code = stamp_linear(p, k.sheet, k.points, base, accepted, memory, elimination);

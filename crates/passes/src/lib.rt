@@ -38,10 +38,10 @@ pub struct Circuit<'a> {
     pub points: &'a [u8],
 }
 
-// What is lent to a run: the base matrix, the last system stamped whole, a matrix to eliminate in, the vector, and the memory of each record.
+// What is lent to a run: the base matrix, which it only reads, the last system stamped whole, a matrix to eliminate in, the vector, and the memory of each record.
 #[derive(Drop)]
 pub struct Buffers<'a> {
-    pub base: &'a mut [f64],
+    pub base: &'a [f64],
     pub system: &'a mut [f64],
     pub elimination: &'a mut [f64],
     pub vector: &'a mut [f64],

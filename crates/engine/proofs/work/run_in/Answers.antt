@@ -13,6 +13,7 @@ use Rattle.passes.specs.Attempt.{Circuit, circuit_of}
 use Rattle.passes.specs.declared.Buffers.{Buffers as Lent}
 use Rattle.passes.specs.Lent.{buffers_in}
 use Rattle.engine.specs.Work.{behind_in, handover_of, handover}
+use Rattle.engine.proofs.Whole.{based}
 use Rattle.engine.proofs.work.run_in.Goals as goal
 
 part : (a : List Float) (n : ℕ) → n ≤ 48 → length a ≡ 48 → length (take n a) ≡ n
@@ -28,7 +29,7 @@ pub slice_bounds-work-end : goal.slice_bounds-work-end
 slice_bounds-work-end c = sym (part _ _ c.requires.small c.cells-a.ensures.0)
 
 pub work-counters-requires : goal.work-counters-requires
-work-counters-requires c = record { fit = c.requires; accepted_len = part _ _ c.requires.small c.cells-a.ensures.0 }
+work-counters-requires c = record { fit = rw c.stamp_base.auto.base c.requires; accepted_len = part _ _ c.requires.small c.cells-a.ensures.0; stamped = c.stamp_base.ensures ∙ based _ _ _ _ c.requires.bases }
 
 pub returns : goal.returns
 returns c =

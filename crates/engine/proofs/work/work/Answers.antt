@@ -14,6 +14,6 @@ returns c =
     let k = c.begin.ensures.kept in
     record {
       all = worked _ _ _ w.base.now a.accepted.now w.system.now w.vector.now w.memory.now _ _ _ _ _ _ _ _
-          c.begin.ensures.all (rw (c.started.ensures, k.elimination_length) at c.run.ensures.runs) k.base_length c.requires.accepted_len c.requires.fit;
+          c.begin.ensures.all (rw (c.started.ensures, k.elimination_length) at c.run.ensures.runs) c.requires.stamped c.requires.accepted_len c.requires.fit;
       kept = after c.run.ensures.kept k;
     }
