@@ -67,7 +67,7 @@ fn behind_at(
 ) -> bool
     ensures { result ≡ behind_at reltol vntol sheet.now vector.now memory.now i }
 {
-    let Ok(e) = record_of(sheet, i, Kind::Diode) else {
+    let Ok(e) = record_of(sheet, i, Kind::Diode.number()) else {
         return false;
     };
     diode_behind(reltol, vntol, e, vector, number_at(memory, i))

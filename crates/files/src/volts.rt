@@ -21,7 +21,7 @@ pub fn volts_of(sheet: &[u8], i: usize, vector: &[f64], memory: &[f64]) -> Volts
 fn across_at(sheet: &[u8], i: usize, vector: &[f64]) -> f64
     ensures { result ≡ across_at sheet.now i vector.now }
 {
-    let Ok(e) = record_of(sheet, i, Kind::Diode) else {
+    let Ok(e) = record_of(sheet, i, Kind::Diode.number()) else {
         return 0.0;
     };
     across_in(e, vector)

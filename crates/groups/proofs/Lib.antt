@@ -3,3 +3,4 @@ pub mod Tags
 pub mod Walk
 pub mod Numbers
 pub mod Passed
+pub mod Told

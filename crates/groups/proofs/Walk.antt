@@ -8,7 +8,8 @@ use native.Mathlib.Omega.{arith}
 use lib.ListN.{length}
 use lib.Ieee.{Float}
 use Rattle.sheet.specs.declared.Element.{Element}
-use Rattle.sheet.specs.Record.{Decoded}
+use Rattle.numbers.specs.declared.refusal.Refusal.{Refusal}
+use Rattle.std.specs.Prelude.{Option, Result}
 use Rattle.sheet.specs.Check.{records_of}
 use Rattle.stamps.specs.Write.{Write, stamped}
 use Rattle.stamps.specs.Laws.Write.{joined, stamped-length}
@@ -29,7 +30,7 @@ module _ (f : ℕ → Element → List Write) (n : ℕ) (sheet : List ℕ) (m₀
   at_first count = (omega arith, refl, refl)
 
   -- record i, which the group reads as d: it passes by what writes nothing
-  pub one_more_lem : (count i : ℕ) (m m' : List Float) (d : Decoded) → i < count → Walking count i m → on_record (f i) [] d ≡ on_record (f i) [] (element_at sheet i) → m' ≡ stamped n (on_record (f i) [] d) m → Walking count (i + 1) m'
+  pub one_more_lem : {E : Type 0} (count i : ℕ) (m m' : List Float) (d : Result Element E) → i < count → Walking count i m → on_record (f i) [] d ≡ on_record (f i) [] (element_at sheet i) → m' ≡ stamped n (on_record (f i) [] d) m → Walking count (i + 1) m'
   unfolding writes_of
   one_more_lem count i m m' d l w r e =
       let k : m' ≡ after (i + 1)
@@ -44,6 +45,6 @@ module _ (f : ℕ → Element → List Write) (n : ℕ) (sheet : List ℕ) (m₀
 
 -- the same for a group of neighbouring kinds that is not told the number
 module _ (f : Element → List Write) (low high n : ℕ) (sheet : List ℕ) (m₀ : List Float) (quiet : Quiet low high f []) where
-  pub one_more_in : (count i : ℕ) (m m' : List Float) (d : Decoded) → i < count → Walking (λ _. f) n sheet m₀ count i m → d ≡ record_in low high sheet i → m' ≡ stamped n (on_record f [] d) m → Walking (λ _. f) n sheet m₀ count (i + 1) m'
+  pub one_more_in : (count i : ℕ) (m m' : List Float) (d : Result Element (Option Refusal)) → i < count → Walking (λ _. f) n sheet m₀ count i m → d ≡ record_in low high sheet i → m' ≡ stamped n (on_record f [] d) m → Walking (λ _. f) n sheet m₀ count (i + 1) m'
   one_more_in count i m m' d l w r e =
-      one_more_lem (λ _. f) n sheet m₀ count i m m' d l w (ap (λ (d : Decoded). on_record f [] d) r ∙ in_group low high sheet i f [] quiet) e
+      one_more_lem (λ _. f) n sheet m₀ count i m m' d l w (ap (on_record f []) r ∙ in_group low high sheet i f [] quiet) e

@@ -1,18 +1,19 @@
 -- The places of the diodes, listed once for all passes: to go through the list, and to read each listed record as a diode's, comes to the same as to go through all records and to decode them.
 -- A place is a byte, so the first 256 records can be listed. Clients cite diodes_among, places_of, diode_places, Listed and listed_of.
-use Rattle.std.specs.Prelude.{ℕ, zero, suc, ◌+◌, ◌-◌, min, ◌≡◌, Bool, true, false, cond, List, [], ◌∷◌, ◌++◌, eqb, length, get_or, drop, Float}
+use Rattle.std.specs.Prelude.{ℕ, zero, suc, ◌+◌, ◌-◌, min, ◌≡◌, Bool, true, false, cond, List, [], ◌∷◌, ◌++◌, eqb, length, get_or, drop, Result, Float}
 use Rattle.numbers.specs.Kinds.{diode}
 use Rattle.numbers.specs.Limits.{most_records}
 use Rattle.options.specs.declared.Options.{Options}
 use Rattle.loops.specs.Loop.{turns}
 use Rattle.std.specs.declared.result.Result.TheVariants.{Ok, Err}
-use Rattle.sheet.specs.Record.{Decoded, record_at, diode_of}
+use Rattle.sheet.specs.declared.Element.{Element}
+use Rattle.sheet.specs.Record.{record_at, diode_of}
 use Rattle.sheet.specs.Check.{records_of}
 use Rattle.groups.specs.Records.{record_in}
 use Rattle.groups.specs.Diodes.{Stamped, stamped_of, biased, biased_at}
 
 -- whether a record has an element
-abbrev pub good_of : Decoded → Bool
+abbrev pub good_of : {E : Type 0} → Result Element E → Bool
 good_of (Ok e) = true
 good_of (Err k) = false
 

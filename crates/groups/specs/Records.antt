@@ -1,5 +1,5 @@
--- The records of a sheet as a group of stamps sees them. Clients cite element_at, unless, record_in, on_record, writes_of and across.
-use Rattle.std.specs.Prelude.{ℕ, zero, suc, Bool, cond, ◌||◌, List, [], ◌++◌, ltb, get_or, Float}
+-- The records of a sheet as a group of stamps sees them. Clients cite element_at, told, unless, record_in, on_record, writes_of and across.
+use Rattle.std.specs.Prelude.{ℕ, zero, suc, Bool, cond, ◌||◌, List, [], ◌++◌, ltb, get_or, Option, None, Some, Result, Float}
 use Rattle.std.specs.Float.Ieee as Ieee
 use Rattle.std.specs.Float.{nan, binary64}
 use Rattle.numbers.specs.declared.refusal.Refusal.{Refusal}
@@ -16,16 +16,21 @@ element_at sheet i = decode_of (record_at sheet i)
 abbrev pub outside : ℕ → ℕ → ℕ → Bool
 outside low high kind = ltb kind low || ltb high kind
 
--- record i, not decoded where a test holds of its kind
-abbrev pub unless : (ℕ → Bool) → List ℕ → ℕ → Decoded
-unless skip sheet i = cond (skip (kind_at sheet i)) (Err Refusal.Kind) (element_at sheet i)
+-- what a record decodes to, where one may also be passed by: that is an error without a refusal
+abbrev pub told : Decoded → Result Element (Option Refusal)
+told (Ok e) = Ok e
+told (Err r) = Err (Some r)
 
--- record i, not decoded where its kind is outside
-unfoldable pub record_in : ℕ → ℕ → List ℕ → ℕ → Decoded
+-- record i, passed by where a test holds of its kind
+abbrev pub unless : (ℕ → Bool) → List ℕ → ℕ → Result Element (Option Refusal)
+unless skip sheet i = cond (skip (kind_at sheet i)) (Err None) (told (element_at sheet i))
+
+-- record i, passed by where its kind is outside
+unfoldable pub record_in : ℕ → ℕ → List ℕ → ℕ → Result Element (Option Refusal)
 record_in low high sheet i = unless (outside low high) sheet i
 
--- what a group makes of a record's element; x where it has none
-abbrev pub on_record : {X : Type 0} → (Element → X) → X → Decoded → X
+-- what a group makes of a record's element; x where it has none, whatever error says so
+abbrev pub on_record : {X E : Type 0} → (Element → X) → X → Result Element E → X
 on_record f x (Ok e) = f e
 on_record f x (Err k) = x
 

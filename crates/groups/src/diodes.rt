@@ -36,7 +36,7 @@ pub fn list_diodes(sheet: &[u8], places: &mut [u8]) -> usize
 fn diode_in(sheet: &[u8], i: usize) -> bool
     ensures { result ≡ diode_in sheet.now i }
 {
-    record_in(sheet, i, Kind::Diode, Kind::Diode).is_ok()
+    record_in(sheet, i, Kind::Diode.number(), Kind::Diode.number()).is_ok()
 }
 
 // Stamps the records at `places`, each as a diode at the vector x, and then the diodes after the first 256 records, and answers 0 or the verdict that ended it.

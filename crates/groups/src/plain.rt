@@ -17,12 +17,8 @@ pub fn stamp_base(sheet: &[u8], nodes: usize, n: usize, m: &mut [f64])
 {
     let count = sheet::records(sheet);
     for i in 0..count {
-        base_one(
-            record_in(sheet, i, Kind::Resistor, Kind::Voltage),
-            nodes,
-            n,
-            m,
-        );
+        let d = record_in(sheet, i, Kind::Resistor.number(), Kind::Voltage.number());
+        base_one(d, nodes, n, m);
     }
 }
 
@@ -32,12 +28,13 @@ pub fn stamp_dependent(sheet: &[u8], nodes: usize, n: usize, m: &mut [f64])
 {
     let count = sheet::records(sheet);
     for i in 0..count {
-        dependent_one(record_in(sheet, i, Kind::Vcvs, Kind::Vccs), nodes, n, m);
+        let d = record_in(sheet, i, Kind::Vcvs.number(), Kind::Vccs.number());
+        dependent_one(d, nodes, n, m);
     }
 }
 
 // What a record writes into the base.
-fn base_one(d: Result<Element, Refusal>, nodes: usize, n: usize, m: &mut [f64])
+fn base_one(d: Result<Element, Option<Refusal>>, nodes: usize, n: usize, m: &mut [f64])
     ensures { m.new ≡ stamped n (on_record (base_writes nodes n) [] d) m.old }
 {
     let Ok(e) = d else {
@@ -76,7 +73,7 @@ fn base_one(d: Result<Element, Refusal>, nodes: usize, n: usize, m: &mut [f64])
 }
 
 // What a record writes as a dependent source.
-fn dependent_one(d: Result<Element, Refusal>, nodes: usize, n: usize, m: &mut [f64])
+fn dependent_one(d: Result<Element, Option<Refusal>>, nodes: usize, n: usize, m: &mut [f64])
     ensures { m.new ≡ stamped n (on_record (dependent_writes nodes n) [] d) m.old }
 {
     let Ok(e) = d else {

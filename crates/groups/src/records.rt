@@ -1,32 +1,41 @@
 // The records of a sheet as a group sees them, and reads and writes of a vector that may be too short.
 ghost use Rattle.std.specs.Prelude.{◌≡◌, get_or, set};
 ghost use Rattle.std.specs.Float.{nan};
-ghost use Rattle.numbers.specs.Kinds.{number_of};
+ghost use Rattle.sheet.specs.Record.{record_at, decode_as};
 ghost use Rattle.groups.specs.Records.{record_in, across as acrossOf};
 
 use numbers::kind::Kind;
 use numbers::refusal::Refusal;
 use sheet::Element;
 
-// Record i, decoded only where its kind is among those from low to high.
-pub fn record_in(sheet: &[u8], i: usize, low: Kind, high: Kind) -> Result<Element, Refusal>
-    ensures { result ≡ record_in (number_of low) (number_of high) sheet.now i }
+// Record i, decoded only where its kind byte is among those from low to high. `Err(None)` is a record that is passed by, `Err(Some(r))` one that r refuses.
+// kept: bytes and no `Kind`s: a bound may be any byte, also one that is no kind's.
+pub fn record_in(sheet: &[u8], i: usize, low: u8, high: u8) -> Result<Element, Option<Refusal>>
+    ensures { result ≡ record_in low high sheet.now i }
 {
     let kind = sheet::kind_at(sheet, i);
-    if kind < low.number() || high.number() < kind {
-        return Err(Refusal::Kind);
+    if kind < low || high < kind {
+        return Err(None);
     }
-    sheet::element_at(sheet, i)
+    sheet::element_at(sheet, i).map_err(Some)
 }
 
-// Record i, decoded only where it is of this kind, and then as no other: a pass over one kind is not slowed by the rest.
-pub fn record_of(sheet: &[u8], i: usize, kind: Kind) -> Result<Element, Refusal>
-    ensures { result ≡ record_in (number_of kind) (number_of kind) sheet.now i }
+// Record i, decoded only where its kind byte is this one, and then as no other kind: a pass over one kind is not slowed by the rest.
+pub fn record_of(sheet: &[u8], i: usize, kind: u8) -> Result<Element, Option<Refusal>>
+    ensures { result ≡ record_in kind kind sheet.now i }
 {
-    if sheet::kind_at(sheet, i) != kind.number() {
-        return Err(Refusal::Kind);
+    if sheet::kind_at(sheet, i) == kind {
+        element_as(sheet, i, kind).map_err(Some)
+    } else {
+        Err(None)
     }
-    sheet::element_as(sheet, i, kind)
+}
+
+// Record i decoded as if it began with this byte; where that is a constant, the compiler leaves out the other kinds.
+fn element_as(sheet: &[u8], i: usize, kind: u8) -> Result<Element, Refusal>
+    ensures { result ≡ decode_as kind (record_at sheet.now i) }
+{
+    sheet::element_as(sheet, i, Kind::try_from(kind)?)
 }
 
 // The voltage of node a above node b.

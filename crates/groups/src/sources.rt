@@ -35,11 +35,12 @@ fn source_at(code: u8, w: Pass, sheet: &[u8], points: &[u8], i: usize, m: &mut [
     if code != 0 {
         return code;
     }
-    source_one(record_in(sheet, i, Kind::Isin, Kind::Vpwl), w, points, m)
+    let d = record_in(sheet, i, Kind::Isin.number(), Kind::Vpwl.number());
+    source_one(d, w, points, m)
 }
 
 // What a record writes as a source.
-fn source_one(d: Result<Element, Refusal>, w: Pass, points: &[u8], m: &mut [f64]) -> u8
+fn source_one(d: Result<Element, Option<Refusal>>, w: Pass, points: &[u8], m: &mut [f64]) -> u8
     ensures { driven_of result m.new ≡ on_record (driven w points.now m.old) (driven_of 0 m.old) d }
 {
     let Ok(e) = d else {

@@ -115,12 +115,13 @@ pub fn take_currents(p: Pass, sheet: &[u8], v: &[f64], memory: &mut [f64])
 {
     let count = sheet::records(sheet);
     for i in 0..count {
-        take_one(record_of(sheet, i, Kind::Inductor), p, i, v, memory);
+        let d = record_of(sheet, i, Kind::Inductor.number());
+        take_one(d, p, i, v, memory);
     }
 }
 
 // What record i takes.
-fn take_one(d: Result<Element, Refusal>, p: Pass, i: usize, v: &[f64], memory: &mut [f64])
+fn take_one(d: Result<Element, Option<Refusal>>, p: Pass, i: usize, v: &[f64], memory: &mut [f64])
     ensures { memory.new ≡ on_record (with_current p v.now i memory.old) memory.old d }
 {
     let Ok(e) = d else {

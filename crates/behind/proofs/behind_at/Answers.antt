@@ -4,8 +4,8 @@ use Rattle.behind.proofs.behind_at.Goals as goal
 
 pub returns-in_default : goal.returns-in_default
 unfolding behind_at
-returns-in_default c = rw (← c.record_of.ensures, c.in_default.is)
+returns-in_default c = rw (← rw c.number.ensures at c.record_of.ensures, c.in_default.is)
 
 pub returns : goal.returns
 unfolding behind_at
-returns c = rw (← c.record_of.ensures, c.in-Ok.is, c.diode_behind.ensures, c.number_at.ensures)
+returns c = rw (← rw c.number.ensures at c.record_of.ensures, c.in-Ok.is, c.diode_behind.ensures, c.number_at.ensures)

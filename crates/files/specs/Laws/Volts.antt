@@ -1,12 +1,11 @@
 -- The voltages told of a record whose diode is behind are the very two by which it is: they are not within tolerance of each other. Clients cite quiet_across and volts_behind. Assumes nothing.
-use Rattle.std.specs.Prelude.{◌≡◌, ℕ, Bool, true, false, not, List, from_bits, slice_index_or, refl, Float}
+use Rattle.std.specs.Prelude.{◌≡◌, ℕ, Bool, true, false, not, List, from_bits, slice_index_or, refl, Result, Float}
 use Rattle.std.proofs.lemmas.Bool.{false≢true}
 use Rattle.std.specs.Float.{nan, binary64}
 use borrow.Author.Tests.{not-true}
 use Rattle.numbers.specs.Kinds.{diode}
 use Rattle.sheet.specs.declared.Element.{Element}
 use Rattle.sheet.specs.declared.Element.TheVariants.{R, I, «V», D, Isin, Vsin, Vpwl, C, Vcvs, Vccs, L}
-use Rattle.sheet.specs.Record.{Decoded}
 use Rattle.std.specs.declared.result.Result.TheVariants.{Ok, Err}
 use Rattle.sheet.specs.Kind.{kind_of}
 use Rattle.groups.specs.Records.{record_in, on_record}
@@ -44,7 +43,7 @@ module _ (reltol vntol : Float) (x : List Float) (y : Float) where
   of_element (Vccs p q cp cq k) h = absurd (false≢true h)
   of_element (L a b v s) h = absurd (false≢true h)
 
-  of_record : (d : Decoded) → on_record (diode_behind reltol vntol x y) false d ≡ true → caught_up_of reltol vntol (on_record (across_in x) (from_bits binary64 0) d) y ≡ false
+  of_record : {E : Type 0} (d : Result Element E) → on_record (diode_behind reltol vntol x y) false d ≡ true → caught_up_of reltol vntol (on_record (across_in x) (from_bits binary64 0) d) y ≡ false
   of_record (Ok e) h = of_element e h
   of_record (Err k) h = absurd (false≢true h)
 

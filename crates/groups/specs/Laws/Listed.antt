@@ -1,7 +1,7 @@
 -- What the list of the diodes is good for: with it a pass stamps what all records would stamp. Assumes nothing.
 -- Clients cite list_bounded, list_lists, listed_front, listed_whole and no_diodes.
 use Prim.Native.Nat.{ℕ, zero, suc, ◌+◌, ◌-◌, ◌<◌, ◌≤◌, min}
-use Rattle.std.specs.Prelude.{◌≡◌, Bool, ◌||◌, List, [], ◌∷◌, ◌++◌, ltb, length, get_or, set, take, drop, Float}
+use Rattle.std.specs.Prelude.{◌≡◌, Bool, ◌||◌, List, [], ◌∷◌, ◌++◌, ltb, length, get_or, set, take, drop, None, Result, Float}
 use Rattle.std.proofs.Math.Path.{refl, sym, ap, subst}
 use Rattle.std.proofs.Common.{◌∙◌, append-nil, append_assoc, le_antisymm, add-one, eqb-true, ltb-false, length-append, length-take-le, get_or-take}
 use Rattle.std.proofs.Math.Bool.{true, false, cond}
@@ -14,11 +14,11 @@ use Rattle.numbers.specs.Limits.{most_records}
 use Rattle.options.specs.declared.Options.{Options}
 use Rattle.loops.specs.Loop.{turns}
 use Rattle.loops.specs.Laws.Loop.{turns_ext, turns-add, store_next}
-use Rattle.numbers.specs.declared.refusal.Refusal.{Refusal}
+use Rattle.sheet.specs.declared.Element.{Element}
 use Rattle.std.specs.declared.result.Result.TheVariants.{Ok, Err}
 use Rattle.sheet.specs.Record.{Decoded, record_at, kind_at, diode_of, element_of, uses_of, rest_zero, if_zero, decode_of}
 use Rattle.sheet.specs.Check.{records_of}
-use Rattle.groups.specs.Records.{element_at, on_record, outside, record_in}
+use Rattle.groups.specs.Records.{element_at, told, on_record, outside, record_in}
 use Rattle.groups.specs.Diodes.{Stamped, stamped_of, biased, biased_at, diodes_of}
 use Rattle.groups.specs.Listed.{good_of, diode_in, diodes_among, Places, places_of, fronted, diode_places, as_diode, listed_at, rest_at, ListedTo, Listed, listed_of}
 use Rattle.groups.specs.Laws.Passing.{in_group}
@@ -43,14 +43,18 @@ decodes r k h = rw k (by_rest (rest_zero (uses_of diode) r) (rw k at h))
     by_rest true t = refl
     by_rest false t = absurd (false≢true t)
 
+good_told : (d : Decoded) → good_of d ≡ good_of (told d)
+good_told (Ok e) = refl
+good_told (Err r) = refl
+
 module _ (sheet : List ℕ) (i : ℕ) where
   found_diode : diode_in sheet i ≡ true → record_in diode diode sheet i ≡ Ok (diode_of (record_at sheet i))
   unfolding diode_in record_in
   found_diode h = by_kind_lem (outside diode diode (kind_at sheet i)) refl h
     where
-      by_kind_lem : (b : Bool) → outside diode diode (kind_at sheet i) ≡ b → good_of (cond b (Err Refusal.Kind) (element_at sheet i)) ≡ true → cond b (Err Refusal.Kind) (element_at sheet i) ≡ Ok (diode_of (record_at sheet i))
+      by_kind_lem : (b : Bool) → outside diode diode (kind_at sheet i) ≡ b → good_of (cond b (Err None) (told (element_at sheet i))) ≡ true → cond b (Err None) (told (element_at sheet i)) ≡ Ok (diode_of (record_at sheet i))
       by_kind_lem true e t = absurd (false≢true t)
-      by_kind_lem false e t = decodes (record_at sheet i) (only_diode (kind_at sheet i) e) t
+      by_kind_lem false e t = ap told (decodes (record_at sheet i) (only_diode (kind_at sheet i) e) (good_told (element_at sheet i) ∙ t))
 
   module _ (o : Options) (n : ℕ) (x : List Float) (s : Stamped) where
     within : on_record (biased o n x i s.matrix s.memory) (stamped_of 0 s.matrix s.memory) (record_in diode diode sheet i) ≡ on_record (biased o n x i s.matrix s.memory) (stamped_of 0 s.matrix s.memory) (element_at sheet i)
@@ -61,7 +65,7 @@ module _ (sheet : List ℕ) (i : ℕ) where
     unfolding as_diode biased_at
     read_diode h = rw (← within, found_diode h)
 
-    nothing : (d : Decoded) → good_of d ≡ false → on_record (biased o n x i s.matrix s.memory) (stamped_of 0 s.matrix s.memory) d ≡ stamped_of 0 s.matrix s.memory
+    nothing : {E : Type 0} (d : Result Element E) → good_of d ≡ false → on_record (biased o n x i s.matrix s.memory) (stamped_of 0 s.matrix s.memory) d ≡ stamped_of 0 s.matrix s.memory
     nothing (Ok e) h = absurd (false≢true (sym h))
     nothing (Err k) h = refl
 

@@ -7,7 +7,7 @@ use Rattle.std.specs.declared.result.Result.TheVariants.{Ok, Err}
 use Rattle.sheet.specs.Record.{Decoded, kind_at}
 use Rattle.sheet.specs.Kind.{kind_of}
 use Rattle.sheet.specs.Laws.Kind.{kind_at_lem}
-use Rattle.groups.specs.Records.{element_at, on_record, unless, outside, record_in}
+use Rattle.groups.specs.Records.{element_at, told, on_record, unless, outside, record_in}
 
 -- a group of one kind: each other kind is outside, and it is not
 pub apart : (kind k : ℕ) → (k ≡ kind → ⊥) → outside kind kind k ≡ true
@@ -24,6 +24,11 @@ Silent skip f x = (e : Element) → skip (kind_of e) ≡ true → f e ≡ x
 abbrev pub Quiet : {X : Type 0} → ℕ → ℕ → (Element → X) → X → Type 0
 Quiet low high f x = Silent (outside low high) f x
 
+-- that a record may also be passed by changes nothing of what is made of its element
+pub told_same : {X : Type 0} (f : Element → X) (x : X) (d : Decoded) → on_record f x (told d) ≡ on_record f x d
+told_same f x (Ok e) = refl
+told_same f x (Err r) = refl
+
 module _ {X : Type 0} (skip : ℕ → Bool) (sheet : List ℕ) (i : ℕ) (f : Element → X) (x : X) (silent : Silent skip f x) where
   pub passed : skip (kind_at sheet i) ≡ true → (d : Decoded) → element_at sheet i ≡ d → x ≡ on_record f x d
   passed h (Ok e) g = sym (silent e (ap skip (sym (kind_at_lem sheet i e g)) ∙ h))
@@ -34,7 +39,7 @@ module _ {X : Type 0} (skip : ℕ → Bool) (sheet : List ℕ) (i : ℕ) (f : El
     where
       by_kind_lem : (b : Bool) → skip (kind_at sheet i) ≡ b → on_record f x (unless skip sheet i) ≡ on_record f x (element_at sheet i)
       by_kind_lem true h = rw h (passed h (element_at sheet i) refl)
-      by_kind_lem false h = rw h
+      by_kind_lem false h = rw h (told_same f x (element_at sheet i))
 
 pub in_group : {X : Type 0} (low high : ℕ) (sheet : List ℕ) (i : ℕ) (f : Element → X) (x : X) → Quiet low high f x → on_record f x (record_in low high sheet i) ≡ on_record f x (element_at sheet i)
 unfolding record_in

@@ -14,7 +14,7 @@ loop-i-preserved c =
     let l = c.loop-i in
     let f = dependent_writes a.nodes a.n in
     one_more_in f vcvs vccs a.n a.sheet.now a.m.now (quiet_dependent a.nodes a.n) _ l.i _ _ _
-    c.loop-i-test.true l.invariant c.record_in.ensures c.dependent_one.ensures
+    c.loop-i-test.true l.invariant (rw (c.number.ensures, c.number-in-loop-i.ensures) at c.record_in-d.ensures) c.dependent_one.ensures
 
 pub returns : goal.returns
 unfolding dependent_of

@@ -16,4 +16,4 @@ returns c =
     let a = c.args in
     let f = driven a.w a.points.now a.m.now in
     let g = in_group 5 7 a.sheet.now a.i f (driven_of 0 a.m.now) (quiet_driven a.w a.points.now a.m.now) in
-    rw (eq-eqb _ _ c.if-code-ne0.false) (rw c.record_in.ensures at c.source_one.ensures ∙ g)
+    rw (eq-eqb _ _ c.if-code-ne0.false) (rw (c.record_in-d.ensures, c.number.ensures, c.number-2.ensures) at c.source_one.ensures ∙ g)

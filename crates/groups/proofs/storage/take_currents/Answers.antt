@@ -5,7 +5,6 @@ use mathlib.Core.Path.{ap, ◌∙◌}
 use Rattle.numbers.specs.Kinds.{inductor}
 use Rattle.loops.specs.Loop.{turns}
 use Rattle.loops.specs.Laws.Loop.{more, done}
-use Rattle.sheet.specs.Record.{Decoded}
 use Rattle.groups.specs.Records.{on_record}
 use Rattle.groups.specs.Storage.{with_current, with_current_at, taken_of}
 use Rattle.groups.specs.Laws.Passing.{in_group}
@@ -18,7 +17,7 @@ loop-i-preserved c =
     let l = c.loop-i in
     let f = with_current a.p a.v.now l.i l.memory in
     let g = in_group inductor inductor a.sheet.now l.i f l.memory (quiet_currents a.p a.v.now l.i l.memory) in
-    (search rules, search rules, c.take_one.ensures ∙ (ap (λ (d : Decoded). on_record f l.memory d) c.record_of.ensures ∙ (g ∙ more _ _ _ l.i l.invariant.2)))
+    (search rules, search rules, c.take_one.ensures ∙ (ap (on_record f l.memory) (rw c.number.ensures at c.record_of-d.ensures) ∙ (g ∙ more _ _ _ l.i l.invariant.2)))
 
 pub returns : goal.returns
 unfolding taken_of
