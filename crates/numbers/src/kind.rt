@@ -38,40 +38,40 @@ impl TryFrom<u8> for Kind {
 
     fn try_from(byte: u8) -> Result<Self, Refusal> {
         match byte {
-            1 => Ok(Kind::Resistor),
-            2 => Ok(Kind::Current),
-            3 => Ok(Kind::Voltage),
-            4 => Ok(Kind::Diode),
-            5 => Ok(Kind::Isin),
-            6 => Ok(Kind::Vsin),
-            7 => Ok(Kind::Vpwl),
-            8 => Ok(Kind::Capacitor),
-            9 => Ok(Kind::Vcvs),
-            10 => Ok(Kind::Vccs),
-            11 => Ok(Kind::Inductor),
+            RESISTOR => Ok(Kind::Resistor),
+            CURRENT => Ok(Kind::Current),
+            VOLTAGE => Ok(Kind::Voltage),
+            DIODE => Ok(Kind::Diode),
+            ISIN => Ok(Kind::Isin),
+            VSIN => Ok(Kind::Vsin),
+            VPWL => Ok(Kind::Vpwl),
+            CAPACITOR => Ok(Kind::Capacitor),
+            VCVS => Ok(Kind::Vcvs),
+            VCCS => Ok(Kind::Vccs),
+            INDUCTOR => Ok(Kind::Inductor),
             _ => Err(Refusal::Kind),
         }
     }
 }
 
-pub const RESISTOR: u8 = 1;
+pub const RESISTOR: u8 = Kind::Resistor as u8;
 
-pub const CURRENT: u8 = 2;
+pub const CURRENT: u8 = Kind::Current as u8;
 
-pub const VOLTAGE: u8 = 3;
+pub const VOLTAGE: u8 = Kind::Voltage as u8;
 
-pub const DIODE: u8 = 4;
+pub const DIODE: u8 = Kind::Diode as u8;
 
-pub const ISIN: u8 = 5;
+pub const ISIN: u8 = Kind::Isin as u8;
 
-pub const VSIN: u8 = 6;
+pub const VSIN: u8 = Kind::Vsin as u8;
 
-pub const VPWL: u8 = 7;
+pub const VPWL: u8 = Kind::Vpwl as u8;
 
-pub const CAPACITOR: u8 = 8;
+pub const CAPACITOR: u8 = Kind::Capacitor as u8;
 
-pub const VCVS: u8 = 9;
+pub const VCVS: u8 = Kind::Vcvs as u8;
 
-pub const VCCS: u8 = 10;
+pub const VCCS: u8 = Kind::Vccs as u8;
 
-pub const INDUCTOR: u8 = 11;
+pub const INDUCTOR: u8 = Kind::Inductor as u8;

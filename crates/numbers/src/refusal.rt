@@ -54,40 +54,40 @@ impl fmt::Display for Refusal {
 impl Error for Refusal {}
 
 // No node, or N above the limit.
-pub const ORDER: u8 = 1;
+pub const ORDER: u8 = Refusal::Order as u8;
 
 // The sheet's length.
-pub const SHEET: u8 = 2;
+pub const SHEET: u8 = Refusal::Sheet as u8;
 
 // The points' length.
-pub const POINTS: u8 = 3;
+pub const POINTS: u8 = Refusal::Points as u8;
 
 // Iteration limits or the budget.
-pub const COUNTS: u8 = 4;
+pub const COUNTS: u8 = Refusal::Counts as u8;
 
 // A lent buffer is too short.
-pub const ROOM: u8 = 5;
+pub const ROOM: u8 = Refusal::Room as u8;
 
 // A record's kind.
-pub const KIND: u8 = 6;
+pub const KIND: u8 = Refusal::Kind as u8;
 
 // A byte of a record that must be zero.
-pub const UNUSED: u8 = 7;
+pub const UNUSED: u8 = Refusal::Unused as u8;
 
 // A record's node.
-pub const NODE: u8 = 8;
+pub const NODE: u8 = Refusal::Node as u8;
 
 // A record's source number.
-pub const SOURCE: u8 = 9;
+pub const SOURCE: u8 = Refusal::Source as u8;
 
 // A record's points.
-pub const PATTERN: u8 = 10;
+pub const PATTERN: u8 = Refusal::Pattern as u8;
 
 // The judge: a number that is not finite, or a tolerance below zero.
-pub const TOLERANCE: u8 = 11;
+pub const TOLERANCE: u8 = Refusal::Tolerance as u8;
 
 // The sine: its argument.
-pub const ARGUMENT: u8 = 12;
+pub const ARGUMENT: u8 = Refusal::Argument as u8;
 
 // The spreads: the number of jobs, or the chosen unknown.
-pub const JOBS: u8 = 13;
+pub const JOBS: u8 = Refusal::Jobs as u8;

@@ -41,25 +41,25 @@ impl fmt::Display for Verdict {
 }
 
 // The run settled; in a transient: it came to its end.
-pub const SETTLED: u8 = 0;
+pub const SETTLED: u8 = Verdict::Settled as u8;
 
 // DC passes used up.
-pub const PASSES_USED: u8 = 20;
+pub const PASSES_USED: u8 = Verdict::PassesUsed as u8;
 
 // Convergence error.
-pub const DIVERGED: u8 = 21;
+pub const DIVERGED: u8 = Verdict::Diverged as u8;
 
 // A diode's current is not finite.
-pub const DIODE_CURRENT: u8 = 22;
+pub const DIODE_CURRENT: u8 = Verdict::DiodeCurrent as u8;
 
 // Step too small.
-pub const STEP_TOO_SMALL: u8 = 23;
+pub const STEP_TOO_SMALL: u8 = Verdict::StepTooSmall as u8;
 
 // Budget spent.
-pub const BUDGET_SPENT: u8 = 24;
+pub const BUDGET_SPENT: u8 = Verdict::BudgetSpent as u8;
 
 // No room for the next row.
-pub const NO_ROOM: u8 = 25;
+pub const NO_ROOM: u8 = Verdict::NoRoom as u8;
 
 // A sine source was refused.
-pub const SINE_REFUSED: u8 = 26;
+pub const SINE_REFUSED: u8 = Verdict::SineRefused as u8;
