@@ -24,7 +24,7 @@ pub struct Pen {
 }
 
 impl Pen {
-    ghost use Rattle.pen.specs.Pens.{pen_of, in_form, at_file, at_job, noted_of, for_person};
+    ghost use Rattle.pen.specs.Pens.{pen_of, in_form, at_file, at_job, noted_of, for_person, for_names, for_json};
 
     // A new pen: for a person unless a form for a machine is asked for.
     pub fn new(out: Stdout, tsv: bool, json: bool) -> Pen
@@ -72,6 +72,18 @@ impl Pen {
         ensures { result ≡ for_person self.now.form }
     {
         matches!(self.form, Form::Person)
+    }
+
+    pub fn is_names(&self) -> bool
+        ensures { result ≡ for_names self.now.form }
+    {
+        matches!(self.form, Form::Names)
+    }
+
+    pub fn is_json(&self) -> bool
+        ensures { result ≡ for_json self.now.form }
+    {
+        matches!(self.form, Form::Json)
     }
 
     // What `write!` calls. It has no error: what could not be written is noted.

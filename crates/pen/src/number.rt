@@ -30,9 +30,9 @@ impl Display for Number {
 
 // Digits times 10^(place - 326).
 #[derive(Clone, Copy)]
-struct Digits {
-    digits: u64,
-    place: u64,
+pub struct Digits {
+    pub digits: u64,
+    pub place: u64,
 }
 
 impl Display for Digits {

@@ -4,7 +4,7 @@ ghost use Rattle.num.specs.Lists.{«at»};
 ghost use Rattle.pen.specs.Fields.{whole_quoted, plain_byte};
 
 use super::ink::{Form, Pen};
-use super::number::{Number, bits, sign};
+use super::number::{Digits, bits, sign};
 use decimal::Decimal;
 use std::fmt;
 use std::fmt::{Display, Formatter, Write};
@@ -21,27 +21,27 @@ impl Pen {
 
     // Ends a record.
     pub fn end(&mut self) {
-        match self.form {
-            Form::Json => write!(self, "}}"),
-            Form::Names | Form::Tsv | Form::Person => write!(self, "\n"),
+        if self.is_json() {
+            write!(self, "}}");
+        } else {
+            write!(self, "\n");
         }
     }
 
     // A field: its name in the header, both in JSON, and elsewhere its value.
     fn field<N: Display + Drop, D: Display + Drop>(&mut self, name: N, value: D) {
-        match self.form {
-            Form::Json => write!(self, ",\"{name}\":{value}"),
-            Form::Names => write!(self, "\t{name}"),
-            Form::Tsv | Form::Person => write!(self, "\t{value}"),
+        if self.is_names() {
+            write!(self, "\t{name}");
+        } else if self.is_json() {
+            write!(self, ",\"{name}\":{value}");
+        } else {
+            write!(self, "\t{value}");
         }
     }
 
     // A quote in JSON, and nothing elsewhere.
     fn quote(&self) -> &'static str {
-        match self.form {
-            Form::Json => "\"",
-            Form::Names | Form::Tsv | Form::Person => "",
-        }
+        if self.is_json() { "\"" } else { "" }
     }
 
     // The file, as a field.
@@ -59,8 +59,11 @@ impl Pen {
 
     // A whole number.
     pub fn whole(&mut self, name: &str, n: u64) {
-        let json = matches!(self.form, Form::Json);
-        let q = if as_string(json, n) { "\"" } else { "" };
+        let q = if as_string(self.is_json(), n) {
+            "\""
+        } else {
+            ""
+        };
         self.field(name, format_args!("{q}{n}{q}"));
     }
 
@@ -98,17 +101,15 @@ impl Pen {
     )
         requires { F.IsAlwaysCallable item }
     {
-        match self.form {
-            Form::Json => {
-                write!(self, ",\"{name}\":[");
-                self.items(n, ",", item);
-                write!(self, "]");
-            }
-            Form::Names => write!(self, "\t{name}"),
-            Form::Tsv | Form::Person => {
-                write!(self, "\t");
-                self.items(n, " ", item);
-            }
+        if self.is_names() {
+            write!(self, "\t{name}");
+        } else if self.is_json() {
+            write!(self, ",\"{name}\":[");
+            self.items(n, ",", item);
+            write!(self, "]");
+        } else {
+            write!(self, "\t");
+            self.items(n, " ", item);
         }
     }
 
@@ -143,7 +144,14 @@ impl Display for Spelled {
         match decimal::decimal_of(self.x) {
             Decimal::Nan => write!(f, "{q}NaN{q}"),
             Decimal::Infinite { minus } => write!(f, "{q}{}Infinity{q}", sign(minus)),
-            Decimal::Finite { .. } => write!(f, "{}", Number(self.x)),
+            Decimal::Finite {
+                minus,
+                digits,
+                place,
+            } => {
+                let digits = Digits { digits, place };
+                write!(f, "{}{digits}", sign(minus))
+            }
         }
     }
 }

@@ -1,10 +1,10 @@
 // The plain words of refusals, verdicts and causes, and the name of an unknown.
 ghost use Rattle.std.specs.Prelude.{◌≡◌};
-ghost use Rattle.pen.specs.Words.{is_refusal};
+ghost use Rattle.pen.specs.Words.{is_refusal, RefusalOf, VerdictOf};
 
-use numbers::cause;
 use numbers::refusal::Refusal;
 use numbers::verdict::Verdict;
+use numbers::{cause, refusal, verdict};
 use std::fmt;
 use std::fmt::{Display, Formatter, Write};
 
@@ -44,42 +44,12 @@ impl Display for Unknown {
     }
 }
 
-// The refusals and the verdicts, each by its number.
-const REFUSALS: [Refusal; 13] = [
-    Refusal::Order,
-    Refusal::Sheet,
-    Refusal::Points,
-    Refusal::Counts,
-    Refusal::Room,
-    Refusal::Kind,
-    Refusal::Unused,
-    Refusal::Node,
-    Refusal::Source,
-    Refusal::Pattern,
-    Refusal::Tolerance,
-    Refusal::Argument,
-    Refusal::Jobs,
-];
-
-const VERDICTS: [Verdict; 8] = [
-    Verdict::Settled,
-    Verdict::PassesUsed,
-    Verdict::Diverged,
-    Verdict::DiodeCurrent,
-    Verdict::StepTooSmall,
-    Verdict::BudgetSpent,
-    Verdict::NoRoom,
-    Verdict::SineRefused,
-];
-
 // What a number means.
 pub fn number_words(k: u8) -> &'static str {
     if is_refusal(k) {
-        let refusal = REFUSALS.iter().find(|r| r.number() == k);
-        return refusal.map_or("no such refusal", |r| refusal_words(*r));
+        return refusal_of(k).map_or("no such refusal", |r| refusal_words(r));
     }
-    let verdict = VERDICTS.iter().find(|v| v.number() == k);
-    verdict.map_or("no such verdict", |v| verdict_words(*v, false))
+    verdict_words(k, false)
 }
 
 // What a refusal of a whole call of spreads means: of the sheet it is said of all its sheets.
@@ -107,8 +77,52 @@ pub fn is_refusal(k: u8) -> bool
     (Verdict::Settled.number() < k) & (k < Verdict::PassesUsed.number())
 }
 
-// What the verdict of a run means: with 0 a transient reached its end, and DC settled.
-pub fn verdict_words(v: Verdict, transient: bool) -> &'static str {
+// What the number of a run's verdict means: with 0 a transient reached its end, and DC settled.
+pub fn verdict_words(k: u8, transient: bool) -> &'static str {
+    verdict_of(k).map_or("no such verdict", |v| ending_words(v, transient))
+}
+
+// The refusal that has a number, if one has it.
+fn refusal_of(k: u8) -> Option<Refusal>
+    ensures { RefusalOf k result }
+{
+    match k {
+        refusal::ORDER => Some(Refusal::Order),
+        refusal::SHEET => Some(Refusal::Sheet),
+        refusal::POINTS => Some(Refusal::Points),
+        refusal::COUNTS => Some(Refusal::Counts),
+        refusal::ROOM => Some(Refusal::Room),
+        refusal::KIND => Some(Refusal::Kind),
+        refusal::UNUSED => Some(Refusal::Unused),
+        refusal::NODE => Some(Refusal::Node),
+        refusal::SOURCE => Some(Refusal::Source),
+        refusal::PATTERN => Some(Refusal::Pattern),
+        refusal::TOLERANCE => Some(Refusal::Tolerance),
+        refusal::ARGUMENT => Some(Refusal::Argument),
+        refusal::JOBS => Some(Refusal::Jobs),
+        _ => None,
+    }
+}
+
+// The verdict that has a number, if one has it.
+fn verdict_of(k: u8) -> Option<Verdict>
+    ensures { VerdictOf k result }
+{
+    match k {
+        verdict::SETTLED => Some(Verdict::Settled),
+        verdict::PASSES_USED => Some(Verdict::PassesUsed),
+        verdict::DIVERGED => Some(Verdict::Diverged),
+        verdict::DIODE_CURRENT => Some(Verdict::DiodeCurrent),
+        verdict::STEP_TOO_SMALL => Some(Verdict::StepTooSmall),
+        verdict::BUDGET_SPENT => Some(Verdict::BudgetSpent),
+        verdict::NO_ROOM => Some(Verdict::NoRoom),
+        verdict::SINE_REFUSED => Some(Verdict::SineRefused),
+        _ => None,
+    }
+}
+
+// The words of a verdict, of DC or of a transient.
+fn ending_words(v: Verdict, transient: bool) -> &'static str {
     match v {
         Verdict::Settled if transient => "reached its end",
         Verdict::Settled => "settled",

@@ -70,7 +70,7 @@ pub fn ended(p: &mut Pen, e: Ending, transient: bool) {
         ended_record(p, e, transient);
         return;
     }
-    let words = verdict_words(e.verdict, transient);
+    let words = verdict_words(e.verdict.number(), transient);
     let number = e.verdict.number();
     write!(p, "verdict {number} ({words}), passes {}", e.passes);
     if transient {
@@ -84,7 +84,7 @@ pub fn ended_record(p: &mut Pen, e: Ending, transient: bool) {
     p.begin("ended");
     p.of_job();
     p.whole("verdict", e.verdict.number() as u64);
-    p.label("meaning", verdict_words(e.verdict, transient));
+    p.label("meaning", verdict_words(e.verdict.number(), transient));
     p.whole("dc_verdict", dc_verdict(e, transient));
     p.whole("passes", e.passes);
     p.whole("rows", e.rows);

@@ -1,6 +1,6 @@
 // An argument by itself: the word `spreads`, an option, or the name of a file.
 ghost use Rattle.std.specs.Prelude.{◌≡◌};
-ghost use Rattle.shell.specs.Words.{digit_of};
+ghost use Rattle.shell.specs.Words.{digit_of, same_bytes};
 
 #[derive(Clone, Copy, Debug, PartialEq, Eq)]
 pub enum Word {
@@ -27,15 +27,15 @@ impl Word {
     pub fn of(s: &[u8]) -> Word
         ensures { result ≡ word_of s.now }
     {
-        if s == b"spreads".as_slice() {
+        if same(s, b"spreads") {
             Word::Spreads
-        } else if s == b"--strict".as_slice() {
+        } else if same(s, b"--strict") {
             Word::Strict
-        } else if s == b"--tsv".as_slice() {
+        } else if same(s, b"--tsv") {
             Word::Tsv
-        } else if s == b"--json".as_slice() {
+        } else if same(s, b"--json") {
             Word::Json
-        } else if s == b"--status-fd".as_slice() {
+        } else if same(s, b"--status-fd") {
             Word::StatusFd
         } else if s.starts_with(b"-") {
             Word::Unknown
@@ -53,4 +53,11 @@ pub fn digit(s: &[u8]) -> Option<u8>
         [c @ b'3'..=b'9'] => Some(*c - b'0'),
         _ => None,
     }
+}
+
+// Whether two texts are the same, byte for byte.
+fn same(s: &[u8], t: &[u8]) -> bool
+    ensures { result ≡ same_bytes s.now t.now }
+{
+    s == t
 }
