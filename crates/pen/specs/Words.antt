@@ -12,7 +12,7 @@ use Rattle.pen.specs.declared.word.Unknown.TheVariants.{Node, Source}
 abbrev pub is_refusal : ℕ → Bool
 is_refusal k = nat_lt settled k && nat_lt k passes_used
 
--- the refusal that has a number: none only where none has it, so that no refusal is without its words
+-- the refusal that has a number: none only where none has it, so that none is missed
 abbrev pub RefusalOf : ℕ → Option Refusal → Type 0
 RefusalOf k r = MatchOption r (¬ ((x : Refusal) × (refusals.number_of x ≡ k))) (λ x. refusals.number_of x ≡ k)
 
